@@ -1,17 +1,17 @@
 /* SPDX-License-Identifier: MIT OR Apache-2.0 */
 /* tsotest_record.h: makes the text of a recording from what a testbench sees.
  *
- * A testbench tells two things as they happen:
+ * A testbench records two things as they happen:
  *
  *   what each core executed, in that core's program order: tsotest_record_load, _store, _rmw, _failed_cas, _fence. The usual
- *     place for these calls is where an instruction retires. Cores may be told in any order against each other;
+ *     place for these calls is where an instruction retires. The calls of different cores may come in any order;
  *   in which order the writes of each address reached memory: tsotest_record_commit, called where a store or an atomic becomes
- *     visible to the other cores: when it is written to a line that the core owns, or to the one memory. Addresses may be told
- *     in any order against each other, and a commit before its store.
+ *     visible to the other cores: when it is written to a line that the core owns, or to the one memory. The calls of different
+ *     addresses may come in any order, and a commit may come before its store.
  *
  * Then tsotest_recording_text gives the recording, for the calls of tsotest.h or the commands of `tsotest`. It finds the write
  * that each read got its value from by the value: so let no two writes of an address write the same value, nor the initial one;
- * a counter does it. Where values repeat, tell sources by tsotest_record_source and commits by tsotest_record_commit_event.
+ * a counter does it. Where values repeat, name sources by tsotest_record_source and commits by tsotest_record_commit_event.
  *
  *   static struct tsotest_record r;
  *   tsotest_record_begin(&r, 2);
@@ -26,9 +26,18 @@
  *
  * Each call that records an event answers its number, from 0 in the order of the calls, or -1. The first fault is kept: r.error
  * says which, r.message says it in words, and no text is given until the next tsotest_record_begin. So a testbench may ignore
- * what the calls answer, and look at the end.
+ * what the calls answer, and look at the end. A recording without an event is a fault too, since a monitor that is connected to
+ * nothing makes one; tsotest_record_allow_empty says that it may be. tsotest_record_count says how much was recorded.
  *
- * A record takes 20 KB, holds no pointers, asks for no memory, and needs no freeing. Each thread may have its own.
+ * An address names a word: docs/TESTBENCH.md says what that is. A value is a whole number below 2^64. A recording has numbers
+ * below 2^32, so its text has a number in place of each greater value: the least from 1 on that is neither a value of the
+ * recording nor in use, in the order in which the text first uses these values. A judge asks only which values are equal.
+ * r.message and tsotest_write_log have the values as they were recorded. C turns a negative number or a fraction into a value in
+ * silence: compile with -Wconversion -Wsign-conversion.
+ *
+ * A record takes 30 KB, holds no pointers, asks for no memory, and needs no freeing. Each thread may have its own. Where several
+ * threads write one record, each holds a lock over a step of the design and the call that records it, so that calls come in the
+ * order in which memory took the writes.
  *
  * C11 and later, C++11 and later. */
 #ifndef TSOTEST_RECORD_H
@@ -53,6 +62,9 @@ extern "C" {
 /* No text of a recording, or of its program, is longer, in bytes. */
 #define TSOTEST_MAX_RECORDING_BYTES 32768
 
+/* No text of counts is longer, in bytes. */
+#define TSOTEST_MAX_COUNTS_BYTES 256
+
 /* The source of a read, for tsotest_record_source: the initial value. */
 #define TSOTEST_INITIAL (-1)
 
@@ -64,6 +76,7 @@ enum tsotest_fault {
     TSOTEST_AMBIGUOUS,    /* several writes of the address wrote that value */
     TSOTEST_SHORT_BUFFER, /* the text has no room */
     TSOTEST_WRITE_FAILED, /* the file can't be written */
+    TSOTEST_EMPTY,        /* no event was recorded */
     /* Of the design, as a rule. None of these is a recording: each is a violation that needs no judge. */
     TSOTEST_STRAY_VALUE, /* a read got a value that nobody wrote there */
     TSOTEST_LOST_STORE,  /* a write never reached memory */
@@ -74,35 +87,48 @@ struct tsotest_event {
     char kind; /* L, S, R, C, F, as in the text */
     uint8_t core, address;
     bool is_committed;
-    uint16_t number; /* in the text */
-    int16_t same;    /* the next write of the same value to the same address, or -1 */
-    int16_t told;    /* the source that was told; -2 where none was */
+    uint16_t number;      /* in the text */
+    int16_t same;         /* the next write of the same value to the same address, or -1 */
+    int16_t given_source; /* by tsotest_record_source; -2 without it */
     int16_t source;
-    uint32_t read, written;
+    uint32_t text; /* what the text has in place of the value that was written */
+    uint64_t read, written;
 };
 
 struct tsotest_commit {
     uint8_t core, address;
-    int16_t told; /* the event that was told; -1 where none was */
-    int16_t event;
-    uint32_t written;
+    bool is_merged;
+    int16_t event; /* by tsotest_record_commit_event; -1 without it */
+    uint64_t written;
 };
 
 struct tsotest_record {
     enum tsotest_fault error;
-    char message[160];
+    char message[256];
+    bool may_be_empty, is_continued;
     int cores, events, addresses, commits;
     uint64_t address[TSOTEST_RECORD_ADDRESSES]; /* in the order of the calls */
-    uint32_t initial[TSOTEST_RECORD_ADDRESSES];
-    uint8_t found[2 * TSOTEST_RECORD_ADDRESSES]; /* one more than the place of an address in this order, or 0 */
-    uint8_t name[TSOTEST_RECORD_ADDRESSES];  /* the number in the text of each address that an event uses */
-    uint8_t named[TSOTEST_RECORD_ADDRESSES]; /* the address of each number */
+    uint64_t initial[TSOTEST_RECORD_ADDRESSES];
+    uint32_t initial_text[TSOTEST_RECORD_ADDRESSES]; /* what the text has in place of each initial value */
+    uint8_t found[2 * TSOTEST_RECORD_ADDRESSES];     /* one more than the place of an address in this order, or 0 */
+    uint8_t name[TSOTEST_RECORD_ADDRESSES];          /* the number in the text of each address that an event uses */
+    uint8_t named[TSOTEST_RECORD_ADDRESSES];         /* the address of each number */
     int names;
-    int first[TSOTEST_RECORD_CORES + 1];       /* the number of each core's first event */
-    uint16_t ordered[TSOTEST_RECORD_EVENTS];   /* the event of each number */
-    int16_t slot[2 * TSOTEST_RECORD_EVENTS];   /* the first write of a value to an address, or -1 */
+    int first[TSOTEST_RECORD_CORES + 1];     /* the number of each core's first event */
+    uint16_t ordered[TSOTEST_RECORD_EVENTS]; /* the event of each number */
+    int taken;
+    int16_t take[TSOTEST_RECORD_EVENTS];     /* the writes in the order in which memory took them */
+    int16_t slot[2 * TSOTEST_RECORD_EVENTS]; /* the first write of a value to an address, or -1 */
     struct tsotest_event event[TSOTEST_RECORD_EVENTS];
     struct tsotest_commit commit[TSOTEST_RECORD_EVENTS];
+};
+
+/* How much was recorded. */
+struct tsotest_counts {
+    uint64_t runs;          /* recordings */
+    uint64_t events;        /* what cores executed */
+    uint64_t foreign_reads; /* reads of a value that another core wrote */
+    uint64_t commits;       /* writes that memory took */
 };
 
 /* Whether a fault is one of the design, as a rule, and not of the testbench. */
@@ -142,7 +168,7 @@ static inline void tsotest_begin_(struct tsotest_record *r, int cores)
     r->error = TSOTEST_NO_FAULT;
     r->message[0] = '\0';
     r->cores = cores;
-    r->events = r->commits = r->names = 0;
+    r->events = r->commits = r->names = r->taken = 0;
     if (cores < 0 || cores > TSOTEST_RECORD_CORES)
         tsotest_record_fail(r, TSOTEST_FULL, "%d cores: a recording has %d at most", cores, TSOTEST_RECORD_CORES);
 }
@@ -150,9 +176,16 @@ static inline void tsotest_begin_(struct tsotest_record *r, int cores)
 /* Begins a recording of this many cores, and forgets what was there. */
 static inline void tsotest_record_begin(struct tsotest_record *r, int cores)
 {
+    r->may_be_empty = r->is_continued = false;
     tsotest_begin_(r, cores);
     r->addresses = 0;
     memset(r->found, 0, sizeof r->found);
+}
+
+/* Says that this recording, and those that continue it, may have no event. */
+static inline void tsotest_record_allow_empty(struct tsotest_record *r)
+{
+    r->may_be_empty = true;
 }
 
 static inline int tsotest_address_(struct tsotest_record *r, uint64_t address)
@@ -183,8 +216,8 @@ static inline int tsotest_core_(struct tsotest_record *r, int core)
     return core;
 }
 
-static inline int tsotest_event_(struct tsotest_record *r, char kind, int core, uint64_t address, uint32_t read,
-                                 uint32_t written)
+static inline int tsotest_event_(struct tsotest_record *r, char kind, int core, uint64_t address, uint64_t read,
+                                 uint64_t written)
 {
     struct tsotest_event *e;
     int a = 0;
@@ -198,14 +231,14 @@ static inline int tsotest_event_(struct tsotest_record *r, char kind, int core, 
     e->kind = kind;
     e->core = (uint8_t)core;
     e->address = (uint8_t)a;
-    e->told = -2;
+    e->given_source = -2;
     e->read = read;
     e->written = written;
     return r->events++;
 }
 
-/* The value of an address before every write; 0 where nothing is told. Answers 0, or -1. */
-static inline int tsotest_record_initial(struct tsotest_record *r, uint64_t address, uint32_t value)
+/* The value of an address before every write; 0 without this call. Answers 0, or -1. */
+static inline int tsotest_record_initial(struct tsotest_record *r, uint64_t address, uint64_t value)
 {
     int a = r->error ? -1 : tsotest_address_(r, address);
     if (a < 0)
@@ -214,25 +247,27 @@ static inline int tsotest_record_initial(struct tsotest_record *r, uint64_t addr
     return 0;
 }
 
-static inline int tsotest_record_load(struct tsotest_record *r, int core, uint64_t address, uint32_t value)
+/* A load, and the value that it read. */
+static inline int tsotest_record_load(struct tsotest_record *r, int core, uint64_t address, uint64_t value)
 {
     return tsotest_event_(r, 'L', core, address, value, 0);
 }
 
-static inline int tsotest_record_store(struct tsotest_record *r, int core, uint64_t address, uint32_t value)
+/* A store, and the value that it wrote. */
+static inline int tsotest_record_store(struct tsotest_record *r, int core, uint64_t address, uint64_t value)
 {
     return tsotest_event_(r, 'S', core, address, 0, value);
 }
 
 /* An atomic that read and wrote: a swap, an add, a compare-and-swap that succeeded. */
-static inline int tsotest_record_rmw(struct tsotest_record *r, int core, uint64_t address, uint32_t read, uint32_t written)
+static inline int tsotest_record_rmw(struct tsotest_record *r, int core, uint64_t address, uint64_t read, uint64_t written)
 {
     return tsotest_event_(r, 'R', core, address, read, written);
 }
 
 /* A compare-and-swap that wrote nothing. It is ordered as an atomic; where it is a mere load in your architecture, record a
  * load. */
-static inline int tsotest_record_failed_cas(struct tsotest_record *r, int core, uint64_t address, uint32_t read)
+static inline int tsotest_record_failed_cas(struct tsotest_record *r, int core, uint64_t address, uint64_t read)
 {
     return tsotest_event_(r, 'C', core, address, read, 0);
 }
@@ -254,9 +289,9 @@ static inline struct tsotest_event *tsotest_read_(struct tsotest_record *r, int 
     return &r->event[event];
 }
 
-/* What a read got, where that is known only after later events of its core: record it at its place in program order with any
- * value, and tell the value when the data come. */
-static inline int tsotest_record_value(struct tsotest_record *r, int event, uint32_t value)
+/* The value that a read got, where it is known only after later events of its core: record the read at its place in program
+ * order with any value, and make this call when the data come. */
+static inline int tsotest_record_value(struct tsotest_record *r, int event, uint64_t value)
 {
     struct tsotest_event *e = tsotest_read_(r, event);
     if (e)
@@ -273,52 +308,75 @@ static inline int tsotest_record_source(struct tsotest_record *r, int event, int
             || r->event[source].address != e->address))
         return tsotest_record_fail(r, TSOTEST_NO_SUCH, "event %d is no write of the address that event %d read", source, event);
     if (e)
-        e->told = (int16_t)source;
+        e->given_source = (int16_t)source;
     return e ? event : -1;
 }
 
-static inline int tsotest_commit_(struct tsotest_record *r, int core, int address, uint32_t value, int event)
+static inline struct tsotest_commit *tsotest_commit_(struct tsotest_record *r, int core, int address, uint64_t value)
 {
     struct tsotest_commit *c;
-    if (r->commits == TSOTEST_RECORD_EVENTS)
-        return tsotest_record_fail(r, TSOTEST_FULL, "more than %d commits", TSOTEST_RECORD_EVENTS);
+    if (r->commits == TSOTEST_RECORD_EVENTS) {
+        tsotest_record_fail(r, TSOTEST_FULL, "more than %d commits", TSOTEST_RECORD_EVENTS);
+        return NULL;
+    }
     c = &r->commit[r->commits++];
     c->core = (uint8_t)core;
     c->address = (uint8_t)address;
+    c->is_merged = false;
+    c->event = -1;
     c->written = value;
-    c->told = (int16_t)event;
-    return 0;
+    return c;
 }
 
 /* A write of this core reached memory, after all writes of the address that did so before. Answers 0, or -1. */
-static inline int tsotest_record_commit(struct tsotest_record *r, int core, uint64_t address, uint32_t value)
+static inline int tsotest_record_commit(struct tsotest_record *r, int core, uint64_t address, uint64_t value)
 {
     int a;
     if (tsotest_core_(r, core) < 0 || (a = tsotest_address_(r, address)) < 0)
         return -1;
-    return tsotest_commit_(r, core, a, value, -1);
+    return tsotest_commit_(r, core, a, value) ? 0 : -1;
 }
 
-/* The same of a write that was recorded already, by its event. */
+/* A store of this core reached memory from an entry of a store buffer that merges: memory took the stores of this core to this
+ * address that waited, in program order, and this one last. It stands for a tsotest_record_commit of each of them. Where an
+ * entry has several words, make one call for each. Answers 0, or -1. */
+static inline int tsotest_record_commit_merged(struct tsotest_record *r, int core, uint64_t address, uint64_t value)
+{
+    int answer = tsotest_record_commit(r, core, address, value);
+    if (answer == 0)
+        r->commit[r->commits - 1].is_merged = true;
+    return answer;
+}
+
+/* A write that was recorded already, given by its event, reached memory. Answers 0, or -1. */
 static inline int tsotest_record_commit_event(struct tsotest_record *r, int event)
 {
     const struct tsotest_event *e;
+    struct tsotest_commit *c;
     if (r->error)
         return -1;
     if (event < 0 || event >= r->events || !tsotest_writes_(r->event[event].kind))
         return tsotest_record_fail(r, TSOTEST_NO_SUCH, "event %d is no write", event);
     e = &r->event[event];
-    return tsotest_commit_(r, e->core, e->address, e->written, event);
+    c = tsotest_commit_(r, e->core, e->address, e->written);
+    if (c)
+        c->event = (int16_t)event;
+    return c ? 0 : -1;
 }
 
 /* Begins the next recording where memory keeps what the last one left there: as many cores, and of each address the value that
- * reached memory last is the initial one. After a fault it does nothing: only tsotest_record_begin goes on. */
+ * reached memory last is the initial one. After a fault it does nothing: only tsotest_record_begin goes on.
+ *
+ * Cut a run only where the design is quiet: all has retired, no store waits in a buffer, and each core has taken every
+ * invalidation that was sent to it. Else a load of the next recording may still lawfully read a value of the last one, which is
+ * then reported as one that nobody wrote. */
 static inline void tsotest_record_continue(struct tsotest_record *r)
 {
     if (r->error)
         return;
     for (int i = 0; i < r->commits; i++)
         r->initial[r->commit[i].address] = r->commit[i].written;
+    r->is_continued = true;
     tsotest_begin_(r, r->cores);
 }
 
@@ -357,9 +415,9 @@ static inline int tsotest_place_(const struct tsotest_record *r, int event)
 }
 
 /* Where the first write of a value to an address stands, or would. */
-static inline int16_t *tsotest_slot_(struct tsotest_record *r, uint8_t address, uint32_t written)
+static inline int16_t *tsotest_slot_(struct tsotest_record *r, uint8_t address, uint64_t written)
 {
-    unsigned at = (written * 2654435761u + address * 40503u) >> 16;
+    unsigned at = ((uint32_t)(written ^ written >> 32) * 2654435761u + address * 40503u) >> 16;
     for (;; at++) {
         int16_t *slot = &r->slot[at % (2 * TSOTEST_RECORD_EVENTS)];
         if (*slot < 0 || (r->event[*slot].address == address && r->event[*slot].written == written))
@@ -389,34 +447,57 @@ static inline int tsotest_committed_(struct tsotest_record *r, const struct tsot
         if (r->event[e].core != c->core)
             continue;
         if (found >= 0)
-            return tsotest_record_fail(r, TSOTEST_AMBIGUOUS, "core %d wrote %" PRIu32 " to 0x%" PRIx64 " twice", c->core,
+            return tsotest_record_fail(r, TSOTEST_AMBIGUOUS, "core %d wrote %" PRIu64 " to 0x%" PRIx64 " twice", c->core,
                                        c->written, r->address[c->address]);
         found = e;
     }
     if (found < 0)
         tsotest_record_fail(r, TSOTEST_STRAY_COMMIT,
-                            "core %d: the value %" PRIu32 " reached 0x%" PRIx64 ", and this core executed no such write",
+                            "core %d: the value %" PRIu64 " reached 0x%" PRIx64 ", and this core executed no such write",
                             c->core, c->written, r->address[c->address]);
     return found;
 }
 
+/* Memory takes a write. */
+static inline int tsotest_take_(struct tsotest_record *r, int event)
+{
+    struct tsotest_event *e = &r->event[event];
+    if (e->is_committed)
+        return tsotest_record_fail(r, TSOTEST_STRAY_COMMIT, "core %d: the value %" PRIu64 " reached 0x%" PRIx64 " twice", e->core,
+                                   e->written, r->address[e->address]);
+    e->is_committed = true;
+    r->take[r->taken++] = (int16_t)event;
+    return 0;
+}
+
+/* Memory takes the stores before a store that wait for the same address in the buffer of its core. */
+static inline void tsotest_take_merged_(struct tsotest_record *r, int event)
+{
+    const struct tsotest_event *last = &r->event[event];
+    for (int i = 0; i < event && last->kind == 'S' && !last->is_committed; i++) {
+        const struct tsotest_event *e = &r->event[i];
+        if (e->kind == 'S' && e->core == last->core && e->address == last->address && !e->is_committed)
+            tsotest_take_(r, i);
+    }
+}
+
 static inline int tsotest_settle_commits_(struct tsotest_record *r)
 {
+    r->taken = 0;
     for (int i = 0; i < r->commits; i++) {
-        struct tsotest_commit *c = &r->commit[i];
-        int found = c->told >= 0 ? c->told : tsotest_committed_(r, c);
+        const struct tsotest_commit *c = &r->commit[i];
+        int found = c->event >= 0 ? c->event : tsotest_committed_(r, c);
         if (found < 0)
             return -1;
-        if (r->event[found].is_committed)
-            return tsotest_record_fail(r, TSOTEST_STRAY_COMMIT, "core %d: the value %" PRIu32 " reached 0x%" PRIx64 " twice",
-                                       c->core, c->written, r->address[c->address]);
-        c->event = (int16_t)found;
-        r->event[found].is_committed = true;
+        if (c->is_merged)
+            tsotest_take_merged_(r, found);
+        if (tsotest_take_(r, found))
+            return -1;
     }
     for (int e = 0; e < r->events; e++)
         if (tsotest_writes_(r->event[e].kind) && !r->event[e].is_committed)
             return tsotest_record_fail(r, TSOTEST_LOST_STORE,
-                                       "operation %d of core %d wrote %" PRIu32 " to 0x%" PRIx64 ", which never reached memory",
+                                       "operation %d of core %d wrote %" PRIu64 " to 0x%" PRIx64 ", which never reached memory",
                                        tsotest_place_(r, e), r->event[e].core, r->event[e].written,
                                        r->address[r->event[e].address]);
     return 0;
@@ -433,11 +514,14 @@ static inline int tsotest_found_source_(struct tsotest_record *r, int event)
     }
     if (count == 0)
         return tsotest_record_fail(r, TSOTEST_STRAY_VALUE,
-                                   "operation %d of core %d read %" PRIu32 " from 0x%" PRIx64 ", which nobody wrote there",
-                                   tsotest_place_(r, event), e->core, e->read, r->address[e->address]);
+                                   "operation %d of core %d read %" PRIu64 " from 0x%" PRIx64 ", which nobody wrote there%s",
+                                   tsotest_place_(r, event), e->core, e->read, r->address[e->address],
+                                   r->is_continued ? "; this run continues another: had each core taken every invalidation before "
+                                                     "the cut?"
+                                                   : "");
     if (count > 1)
         return tsotest_record_fail(r, TSOTEST_AMBIGUOUS,
-                                   "operation %d of core %d read %" PRIu32 " from 0x%" PRIx64 ", of which there are %d sources",
+                                   "operation %d of core %d read %" PRIu64 " from 0x%" PRIx64 ", of which there are %d sources",
                                    tsotest_place_(r, event), e->core, e->read, r->address[e->address], count);
     return found;
 }
@@ -446,29 +530,107 @@ static inline int tsotest_settle_sources_(struct tsotest_record *r)
 {
     for (int i = 0; i < r->events; i++) {
         struct tsotest_event *e = &r->event[i];
-        uint32_t there;
+        uint64_t there;
         if (!tsotest_reads_(e->kind))
             continue;
-        e->source = (int16_t)(e->told == -2 ? tsotest_found_source_(r, i) : e->told);
+        e->source = (int16_t)(e->given_source == -2 ? tsotest_found_source_(r, i) : e->given_source);
         if (r->error)
             return -1;
         there = e->source < 0 ? r->initial[e->address] : r->event[e->source].written;
         if (e->read != there)
             return tsotest_record_fail(r, TSOTEST_STRAY_VALUE,
-                                       "operation %d of core %d read %" PRIu32 " from 0x%" PRIx64 ", and its source wrote %" PRIu32,
+                                       "operation %d of core %d read %" PRIu64 " from 0x%" PRIx64 ", and its source wrote %" PRIu64,
                                        tsotest_place_(r, i), e->core, e->read, r->address[e->address], there);
     }
     return 0;
 }
 
-/* Finds what was not told; answers 0, or -1 and r->error. */
+/* No recording has more values: one for each write, and the initial ones. */
+enum { TSOTEST_VALUES_ = TSOTEST_RECORD_EVENTS + TSOTEST_RECORD_ADDRESSES };
+
+/* The numbers that stand in the text for values above 2^32 - 1. */
+struct tsotest_numbers_ {
+    bool is_value[TSOTEST_VALUES_ + 1]; /* whether a number is a value of the recording */
+    int count;
+    uint64_t value[TSOTEST_VALUES_];
+    uint32_t number[TSOTEST_VALUES_]; /* ascending */
+};
+
+static inline void tsotest_mark_value_(struct tsotest_numbers_ *numbers, uint64_t value)
+{
+    if (value < sizeof numbers->is_value)
+        numbers->is_value[value] = true;
+}
+
+/* What the text has for a value. */
+static inline uint32_t tsotest_number_of_(struct tsotest_numbers_ *numbers, uint64_t value)
+{
+    uint32_t number;
+    if (value <= UINT32_MAX)
+        return (uint32_t)value;
+    for (int i = 0; i < numbers->count; i++)
+        if (numbers->value[i] == value)
+            return numbers->number[i];
+    number = numbers->count ? numbers->number[numbers->count - 1] : 0;
+    do
+        number++;
+    while (numbers->is_value[number]);
+    numbers->value[numbers->count] = value;
+    numbers->number[numbers->count++] = number;
+    return number;
+}
+
+/* Numbers the values above 2^32 - 1 by their first use in the text. Each read has the value of its source. */
+static inline void tsotest_number_values_(struct tsotest_record *r)
+{
+    struct tsotest_numbers_ numbers;
+    memset(numbers.is_value, 0, sizeof numbers.is_value);
+    numbers.count = 0;
+    for (int e = 0; e < r->events; e++)
+        if (tsotest_writes_(r->event[e].kind))
+            tsotest_mark_value_(&numbers, r->event[e].written);
+    for (int n = 0; n < r->names; n++)
+        tsotest_mark_value_(&numbers, r->initial[r->named[n]]);
+    for (int n = 0; n < r->events; n++) {
+        struct tsotest_event *e = &r->event[r->ordered[n]];
+        if (tsotest_reads_(e->kind))
+            tsotest_number_of_(&numbers, e->read);
+        if (tsotest_writes_(e->kind))
+            e->text = tsotest_number_of_(&numbers, e->written);
+    }
+    for (int n = 0; n < r->names; n++)
+        r->initial_text[r->named[n]] = tsotest_number_of_(&numbers, r->initial[r->named[n]]);
+}
+
+/* Finds what the testbench did not say; answers 0, or -1 and r->error. */
 static inline int tsotest_settle_(struct tsotest_record *r)
 {
     if (r->error)
         return -1;
+    if (!r->events && !r->may_be_empty)
+        return tsotest_record_fail(r, TSOTEST_EMPTY, "no event was recorded: has the recording begun, and is a monitor connected?");
     tsotest_number_(r);
     tsotest_index_(r);
-    return tsotest_settle_commits_(r) || tsotest_settle_sources_(r) ? -1 : 0;
+    if (tsotest_settle_commits_(r) || tsotest_settle_sources_(r))
+        return -1;
+    tsotest_number_values_(r);
+    return 0;
+}
+
+/* Counts the recording, and adds it to counts, which a testbench sets to zeros before the first one. Answers r->error; after a
+ * fault nothing is added. */
+static inline enum tsotest_fault tsotest_record_count(struct tsotest_record *r, struct tsotest_counts *counts)
+{
+    if (tsotest_settle_(r))
+        return r->error;
+    counts->runs++;
+    counts->events += (uint64_t)r->events;
+    counts->commits += (uint64_t)r->taken;
+    for (int i = 0; i < r->events; i++) {
+        const struct tsotest_event *e = &r->event[i];
+        counts->foreign_reads += tsotest_reads_(e->kind) && e->source >= 0 && r->event[e->source].core != e->core;
+    }
+    return TSOTEST_NO_FAULT;
 }
 
 /* ------------------------------------------------------------------------------------------------------------- texts */
@@ -526,6 +688,12 @@ static inline char *tsotest_add_number_(char *piece, uint32_t number)
     return piece;
 }
 
+/* What the text has for the value of a read. */
+static inline uint32_t tsotest_read_text_(const struct tsotest_record *r, const struct tsotest_event *e)
+{
+    return e->source < 0 ? r->initial_text[e->address] : r->event[e->source].text;
+}
+
 /* An event, after a comma unless it is the first. */
 static inline void tsotest_put_event_(const struct tsotest_record *r, struct tsotest_out_ *out, const struct tsotest_event *e,
                                       bool is_first)
@@ -542,12 +710,12 @@ static inline void tsotest_put_event_(const struct tsotest_record *r, struct tso
     *end++ = e->kind;
     *end++ = '"';
     if (tsotest_reads_(e->kind)) {
-        end = tsotest_add_number_(tsotest_add_text_(end, ",\"r\":"), e->read);
+        end = tsotest_add_number_(tsotest_add_text_(end, ",\"r\":"), tsotest_read_text_(r, e));
         end = tsotest_add_text_(end, ",\"s\":");
         end = e->source < 0 ? tsotest_add_text_(end, "null") : tsotest_add_number_(end, r->event[e->source].number);
     }
     if (tsotest_writes_(e->kind))
-        end = tsotest_add_number_(tsotest_add_text_(end, ",\"w\":"), e->written);
+        end = tsotest_add_number_(tsotest_add_text_(end, ",\"w\":"), e->text);
     *end++ = '}';
     tsotest_put_(out, piece, end);
 }
@@ -583,24 +751,25 @@ static inline void tsotest_put_number_(struct tsotest_out_ *out, const char *bef
 static inline void tsotest_put_initials_(const struct tsotest_record *r, struct tsotest_out_ *out)
 {
     for (int n = 0; n < r->names; n++)
-        tsotest_put_number_(out, n ? "," : "", r->initial[r->named[n]]);
+        tsotest_put_number_(out, n ? "," : "", r->initial_text[r->named[n]]);
 }
 
 static inline void tsotest_put_writes_(const struct tsotest_record *r, struct tsotest_out_ *out)
 {
-    /* The commits of each address, one after another. */
+    /* The writes of each address, one after another. */
     int16_t first[TSOTEST_RECORD_ADDRESSES], next[TSOTEST_RECORD_EVENTS];
     memset(first, 0xFF, sizeof first);
-    for (int i = r->commits - 1; i >= 0; i--) {
-        next[i] = first[r->commit[i].address];
-        first[r->commit[i].address] = (int16_t)i;
+    for (int i = r->taken - 1; i >= 0; i--) {
+        uint8_t address = r->event[r->take[i]].address;
+        next[i] = first[address];
+        first[address] = (int16_t)i;
     }
     for (int n = 0; n < r->names; n++) {
         const char *before = n ? ",[" : "[";
         int i = first[r->named[n]];
         tsotest_put_text_(out, i < 0 ? before : "");
         for (; i >= 0; i = next[i], before = ",")
-            tsotest_put_number_(out, before, r->event[r->commit[i].event].number);
+            tsotest_put_number_(out, before, r->event[r->take[i]].number);
         tsotest_put_text_(out, "]");
     }
 }
@@ -648,9 +817,9 @@ static inline void tsotest_put_operation_(const struct tsotest_record *r, struct
     tsotest_put_text_(out, word);
     tsotest_put_name_(r, out, e->address);
     if (e->kind == 'C')
-        tsotest_put_number_(out, " ", e->read + 1);
+        tsotest_put_number_(out, " ", tsotest_read_text_(r, e) + 1);
     if (e->kind != 'L')
-        tsotest_put_number_(out, " ", e->written);
+        tsotest_put_number_(out, " ", e->kind == 'C' ? 0 : e->text);
     tsotest_put_text_(out, "\n");
 }
 
@@ -672,7 +841,7 @@ static inline enum tsotest_fault tsotest_program_text(struct tsotest_record *r, 
         if (r->initial[r->named[n]]) {
             tsotest_put_text_(&o, "init ");
             tsotest_put_name_(r, &o, r->named[n]);
-            tsotest_put_number_(&o, " ", r->initial[r->named[n]]);
+            tsotest_put_number_(&o, " ", r->initial_text[r->named[n]]);
             tsotest_put_text_(&o, "\n");
         }
     *len = o.len;
@@ -701,43 +870,76 @@ static inline enum tsotest_fault tsotest_write_program(struct tsotest_record *r,
     return fault;
 }
 
-/* What was told, a line each: initial values, events in the order of the calls, told sources, commits, and as a remark the
- * fault. That is what is left to look at where a fault gives no recording. examples/log/from_log.c reads it. */
+/* Writes counts to out, which has room for size bytes, as a line, with a newline at its end and no 0 byte. Where no read got a
+ * value that another core wrote, a second line says that nothing was tested. len and the answer are as those of
+ * tsotest_recording_text. */
+static inline enum tsotest_fault tsotest_counts_text(const struct tsotest_counts *counts, char *out, size_t size, size_t *len)
+{
+    struct tsotest_out_ o = {out, size, 0};
+    char line[TSOTEST_MAX_COUNTS_BYTES];
+    snprintf(line, sizeof line,
+             "%" PRIu64 " runs: %" PRIu64 " events, %" PRIu64 " reads of another core's write, %" PRIu64 " committed writes\n%s",
+             counts->runs, counts->events, counts->foreign_reads, counts->commits,
+             counts->foreign_reads ? "" : "no read got a value that another core wrote: these runs have tested nothing\n");
+    tsotest_put_text_(&o, line);
+    *len = o.len;
+    return o.len <= size ? TSOTEST_NO_FAULT : TSOTEST_SHORT_BUFFER;
+}
+
+/* The text of counts to a file; TSOTEST_WRITE_FAILED where that fails. */
+static inline enum tsotest_fault tsotest_write_counts(const struct tsotest_counts *counts, FILE *file)
+{
+    char out[TSOTEST_MAX_COUNTS_BYTES];
+    size_t len;
+    enum tsotest_fault fault = tsotest_counts_text(counts, out, sizeof out, &len);
+    if (!fault && (fwrite(out, 1, len, file) != len || fflush(file)))
+        return TSOTEST_WRITE_FAILED;
+    return fault;
+}
+
+static inline void tsotest_write_event_(const struct tsotest_record *r, const struct tsotest_event *e, FILE *file)
+{
+    const char *word = e->kind == 'L' ? "ld" : e->kind == 'S' ? "st" : e->kind == 'R' ? "rmw" : "cas";
+    if (e->kind == 'F') {
+        fprintf(file, "fence %d\n", e->core);
+        return;
+    }
+    fprintf(file, "%s %d 0x%" PRIx64, word, e->core, r->address[e->address]);
+    if (tsotest_reads_(e->kind))
+        fprintf(file, " %" PRIu64, e->read);
+    if (tsotest_writes_(e->kind))
+        fprintf(file, " %" PRIu64, e->written);
+    fprintf(file, "\n");
+}
+
+static inline void tsotest_write_commit_(const struct tsotest_record *r, const struct tsotest_commit *c, FILE *file)
+{
+    if (c->event >= 0)
+        fprintf(file, "commit %d\n", c->event);
+    else
+        fprintf(file, "%s %d 0x%" PRIx64 " %" PRIu64 "\n", c->is_merged ? "merged" : "commit", c->core, r->address[c->address],
+                c->written);
+}
+
+/* What was recorded, a line each: initial values, events in the order of the calls, the sources that were given, commits, and as
+ * a remark the fault. That is what is left to look at where a fault gives no recording. examples/log/from_log.c reads it. */
 static inline enum tsotest_fault tsotest_write_log(const struct tsotest_record *r, FILE *file)
 {
     fprintf(file, "cores %d\n", r->cores);
+    if (r->may_be_empty)
+        fprintf(file, "empty\n");
     for (int a = 0; a < r->addresses; a++)
         if (r->initial[a])
-            fprintf(file, "init 0x%" PRIx64 " %" PRIu32 "\n", r->address[a], r->initial[a]);
-    for (int i = 0; i < r->events; i++) {
-        const struct tsotest_event *e = &r->event[i];
-        if (e->kind == 'F') {
-            fprintf(file, "fence %d\n", e->core);
-            continue;
-        }
-        fprintf(file, "%s %d 0x%" PRIx64,
-                e->kind == 'L'   ? "ld"
-                : e->kind == 'S' ? "st"
-                : e->kind == 'R' ? "rmw"
-                                 : "cas",
-                e->core, r->address[e->address]);
-        if (tsotest_reads_(e->kind))
-            fprintf(file, " %" PRIu32, e->read);
-        if (tsotest_writes_(e->kind))
-            fprintf(file, " %" PRIu32, e->written);
-        fprintf(file, "\n");
-    }
+            fprintf(file, "init 0x%" PRIx64 " %" PRIu64 "\n", r->address[a], r->initial[a]);
     for (int i = 0; i < r->events; i++)
-        if (tsotest_reads_(r->event[i].kind) && r->event[i].told == TSOTEST_INITIAL)
+        tsotest_write_event_(r, &r->event[i], file);
+    for (int i = 0; i < r->events; i++)
+        if (tsotest_reads_(r->event[i].kind) && r->event[i].given_source == TSOTEST_INITIAL)
             fprintf(file, "source %d init\n", i);
-        else if (tsotest_reads_(r->event[i].kind) && r->event[i].told >= 0)
-            fprintf(file, "source %d %d\n", i, r->event[i].told);
+        else if (tsotest_reads_(r->event[i].kind) && r->event[i].given_source >= 0)
+            fprintf(file, "source %d %d\n", i, r->event[i].given_source);
     for (int i = 0; i < r->commits; i++)
-        if (r->commit[i].told >= 0)
-            fprintf(file, "commit %d\n", r->commit[i].told);
-        else
-            fprintf(file, "commit %d 0x%" PRIx64 " %" PRIu32 "\n", r->commit[i].core, r->address[r->commit[i].address],
-                    r->commit[i].written);
+        tsotest_write_commit_(r, &r->commit[i], file);
     if (r->error)
         fprintf(file, "# %s\n", r->message);
     return fflush(file) || ferror(file) ? TSOTEST_WRITE_FAILED : TSOTEST_NO_FAULT;

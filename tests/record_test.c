@@ -1,4 +1,5 @@
 /* What the recorder gives, what it refuses, and how it says so. */
+#include "tsotest.h"
 #include "tsotest_record.h"
 
 #include <assert.h>
@@ -40,6 +41,7 @@ static void gives(text_of *of, const char *text)
 static void texts(void)
 {
     tsotest_record_begin(&r, 0);
+    tsotest_record_allow_empty(&r);
     gives(tsotest_recording_text, "{\"cores\":[],\"version\":1,\"writes\":[]}\n");
     gives(tsotest_program_text, "");
     /* Addresses are numbered by first use core by core, whatever the order of the calls. */
@@ -57,7 +59,7 @@ static void texts(void)
     /* Version 2. */
     tsotest_record_begin(&r, 1);
     tsotest_record_initial(&r, 0x30, 9);
-    tsotest_record_initial(&r, 0x34, 9); /* not used, and so not told */
+    tsotest_record_initial(&r, 0x34, 9); /* not used, and so not in the text */
     tsotest_record_failed_cas(&r, 0, 0x30, 9);
     tsotest_record_fence(&r, 0);
     tsotest_record_rmw(&r, 0, 0x30, 9, 4294967295u);
@@ -71,7 +73,7 @@ static void texts(void)
     tsotest_record_load(&r, 0, 0x30, 4294967295u);
     gives(tsotest_recording_text,
           "{\"cores\":[[{\"a\":0,\"k\":\"L\",\"r\":4294967295,\"s\":null}]],\"init\":[4294967295],\"version\":2,\"writes\":[[]]}\n");
-    /* Values that repeat, with sources and commits that are told; a value that comes later; names of high addresses. */
+    /* Values that repeat, with sources and commits by events; a value that comes later; names of high addresses. */
     tsotest_record_begin(&r, 2);
     int a = tsotest_record_store(&r, 0, 0x10000000, 5), b = tsotest_record_store(&r, 1, 0x10000000, 5);
     int l = tsotest_record_load(&r, 0, 0x10000000, 0);
@@ -190,6 +192,279 @@ static void written_logs(void)
     }
 }
 
+/* What the judge says of the recording: its verdict is in out. */
+static uint8_t judged(void)
+{
+    static char text[TSOTEST_MAX_RECORDING_BYTES];
+    size_t size;
+    assert(tsotest_recording_text(&r, text, sizeof text, &size) == TSOTEST_NO_FAULT);
+    return tsotest_judge(text, size, out, sizeof out, &len);
+}
+
+/* A recording without an event is a fault of the testbench, unless it says that there may be none: so a monitor that is bound to nothing
+ * is never allowed. */
+static void empty(void)
+{
+    memset(&r, 0, sizeof r); /* no begin */
+    fails(TSOTEST_EMPTY, false, "no event was recorded");
+    tsotest_record_begin(&r, 2);
+    fails(TSOTEST_EMPTY, false, "no event was recorded");
+    tsotest_record_begin(&r, 2);
+    tsotest_record_commit(&r, 0, 0x40, 1);
+    fails(TSOTEST_EMPTY, false, "no event was recorded");
+    tsotest_record_begin(&r, 2);
+    tsotest_record_allow_empty(&r);
+    gives(tsotest_recording_text, "{\"cores\":[[],[]],\"version\":1,\"writes\":[]}\n");
+    assert(judged() == TSOTEST_ALLOWED);
+    tsotest_record_continue(&r);
+    gives(tsotest_recording_text, "{\"cores\":[[],[]],\"version\":1,\"writes\":[]}\n");
+    tsotest_record_begin(&r, 2);
+    fails(TSOTEST_EMPTY, false, "no event was recorded");
+    tsotest_record_begin(&r, 1);
+    tsotest_record_fence(&r, 0);
+    tsotest_record_continue(&r);
+    fails(TSOTEST_EMPTY, false, "no event was recorded");
+}
+
+/* The text that counts have. */
+static void counts_are(const struct tsotest_counts *counts, const char *text)
+{
+    char room[TSOTEST_MAX_COUNTS_BYTES + 1];
+    size_t want = strlen(text), again;
+    memset(room, 'X', sizeof room);
+    assert(tsotest_counts_text(counts, room, want, &len) == TSOTEST_NO_FAULT);
+    if (len != want || memcmp(room, text, len)) {
+        printf("want %sgot  %.*s", text, (int)len, room);
+        abort();
+    }
+    assert(room[len] == 'X' && tsotest_counts_text(counts, room, len - 1, &again) == TSOTEST_SHORT_BUFFER && again == len);
+    FILE *file = tmpfile();
+    assert(file && tsotest_write_counts(counts, file) == TSOTEST_NO_FAULT);
+    rewind(file);
+    assert(fread(room, 1, sizeof room, file) == want && memcmp(room, text, want) == 0);
+    fclose(file);
+}
+
+/* Counts are those of all recordings without a fault; a read of another core's write is one whose source is there. */
+static void counts(void)
+{
+    struct tsotest_counts sums = {0, 0, 0, 0};
+    for (uint64_t run = 1; run <= 3; run++) {
+        tsotest_record_begin(&r, 2);
+        tsotest_record_store(&r, 0, 0x40, run);
+        tsotest_record_rmw(&r, 0, 0x44, 0, 7);
+        tsotest_record_load(&r, 0, 0x40, run);      /* its own */
+        tsotest_record_load(&r, 1, 0x48, 0);        /* the initial value */
+        tsotest_record_load(&r, 1, 0x40, run);      /* another core's, as the next two */
+        tsotest_record_failed_cas(&r, 1, 0x44, 7);
+        tsotest_record_rmw(&r, 1, 0x44, 7, 8);
+        tsotest_record_fence(&r, 1);
+        tsotest_record_commit(&r, 0, 0x40, run);
+        tsotest_record_commit(&r, 0, 0x44, 7);
+        tsotest_record_commit(&r, 1, 0x44, 8);
+        assert(tsotest_record_count(&r, &sums) == TSOTEST_NO_FAULT);
+        assert(sums.runs == run && sums.events == 8 * run && sums.foreign_reads == 3 * run && sums.commits == 3 * run);
+    }
+    tsotest_record_begin(&r, 1);
+    tsotest_record_store(&r, 0, 0x40, 1);
+    assert(tsotest_record_count(&r, &sums) == TSOTEST_LOST_STORE && sums.runs == 3 && sums.events == 24);
+    counts_are(&sums, "3 runs: 24 events, 9 reads of another core's write, 9 committed writes\n");
+    tsotest_record_begin(&r, 1);
+    tsotest_record_load(&r, 0, 0x40, 0);
+    struct tsotest_counts alone = {0, 0, 0, 0};
+    assert(tsotest_record_count(&r, &alone) == TSOTEST_NO_FAULT);
+    counts_are(&alone, "1 runs: 1 events, 0 reads of another core's write, 0 committed writes\n"
+                       "no read got a value that another core wrote: these runs have tested nothing\n");
+    struct tsotest_counts most = {UINT64_MAX, UINT64_MAX, 0, UINT64_MAX};
+    counts_are(&most, "18446744073709551615 runs: 18446744073709551615 events, 0 reads of another core's write, "
+                      "18446744073709551615 committed writes\n"
+                      "no read got a value that another core wrote: these runs have tested nothing\n");
+    FILE *full = fopen("/dev/full", "w");
+    if (full) {
+        assert(tsotest_write_counts(&most, full) == TSOTEST_WRITE_FAILED);
+        fclose(full);
+    }
+}
+
+/* A value above 2^32 - 1 has in the text the least number that is free, by its first use there; messages and the log have the value. */
+static void wide_values(void)
+{
+    const uint64_t wide = 0x100000001, other = (uint64_t)1 << 40;
+    tsotest_record_begin(&r, 2);
+    tsotest_record_initial(&r, 0x44, other);
+    tsotest_record_store(&r, 1, 0x44, 1);
+    tsotest_record_load(&r, 1, 0x40, wide);
+    tsotest_record_store(&r, 0, 0x40, wide);
+    tsotest_record_failed_cas(&r, 0, 0x44, other);
+    tsotest_record_rmw(&r, 0, 0x48, 0, UINT64_MAX);
+    tsotest_record_rmw(&r, 0, 0x48, UINT64_MAX, UINT32_MAX);
+    tsotest_record_commit(&r, 0, 0x40, wide);
+    tsotest_record_commit(&r, 1, 0x44, 1);
+    tsotest_record_commit(&r, 0, 0x48, UINT64_MAX);
+    tsotest_record_commit(&r, 0, 0x48, UINT32_MAX);
+    gives(tsotest_recording_text,
+          "{\"cores\":[[{\"a\":0,\"k\":\"S\",\"w\":2},{\"a\":1,\"k\":\"C\",\"r\":3,\"s\":null},{\"a\":2,\"k\":\"R\",\"r\":0,\"s\":null,\"w\":4},"
+          "{\"a\":2,\"k\":\"R\",\"r\":4,\"s\":2,\"w\":4294967295}],[{\"a\":1,\"k\":\"S\",\"w\":1},{\"a\":0,\"k\":\"L\",\"r\":2,\"s\":0}]],"
+          "\"init\":[0,3,0],\"version\":2,\"writes\":[[0],[4],[2,3]]}\n");
+    gives(tsotest_program_text, "core\nst x40 2\ncas x44 4 0\nswap x48 4\nswap x48 4294967295\ncore\nst x44 1\nld x40\ninit x44 3\n");
+    logs("cores 2\ninit 0x44 1099511627776\nst 1 0x44 1\nld 1 0x40 4294967297\nst 0 0x40 4294967297\ncas 0 0x44 1099511627776\n"
+         "rmw 0 0x48 0 18446744073709551615\nrmw 0 0x48 18446744073709551615 4294967295\n"
+         "commit 0 0x40 4294967297\ncommit 1 0x44 1\ncommit 0 0x48 18446744073709551615\ncommit 0 0x48 4294967295\n");
+    /* The next run begins with the whole value; an initial value that is not read is numbered last. */
+    tsotest_record_continue(&r);
+    tsotest_record_store(&r, 0, 0x40, 3 * wide);
+    tsotest_record_commit(&r, 0, 0x40, 3 * wide);
+    gives(tsotest_recording_text, "{\"cores\":[[{\"a\":0,\"k\":\"S\",\"w\":1}],[]],\"init\":[2],\"version\":2,\"writes\":[[0]]}\n");
+    /* The low half of a value is another value. */
+    tsotest_record_begin(&r, 1);
+    tsotest_record_store(&r, 0, 64, wide);
+    tsotest_record_load(&r, 0, 64, 1);
+    tsotest_record_commit(&r, 0, 64, wide);
+    fails(TSOTEST_STRAY_VALUE, true, "read 1 from 0x40, which nobody wrote there");
+    tsotest_record_begin(&r, 1);
+    tsotest_record_store(&r, 0, 64, 1);
+    tsotest_record_load(&r, 0, 64, wide);
+    tsotest_record_commit(&r, 0, 64, 1);
+    fails(TSOTEST_STRAY_VALUE, true, "read 4294967297 from 0x40, which nobody wrote there");
+    tsotest_record_begin(&r, 1);
+    tsotest_record_store(&r, 0, 64, wide);
+    tsotest_record_commit(&r, 0, 64, 1);
+    fails(TSOTEST_STRAY_COMMIT, true, "the value 1 reached 0x40, and this core executed no such write");
+    tsotest_record_begin(&r, 1);
+    tsotest_record_store(&r, 0, 64, wide);
+    fails(TSOTEST_LOST_STORE, true, "wrote 4294967297 to 0x40, which never reached memory");
+}
+
+/* As many values as there may be: the numbers of the wide ones are those that the others leave. */
+static void many_wide_values(void)
+{
+    tsotest_record_begin(&r, 16);
+    for (uint64_t a = 0; a < 16; a++)
+        tsotest_record_initial(&r, a, UINT64_MAX - a);
+    for (uint64_t i = 0; i < 512; i++) {
+        uint64_t value = i % 2 ? i : UINT64_MAX / 2 + i;
+        tsotest_record_rmw(&r, (int)(i / 32), i % 16, i < 16 ? UINT64_MAX - i : (i - 16) % 2 ? i - 16 : UINT64_MAX / 2 + i - 16, value);
+        tsotest_record_commit(&r, (int)(i / 32), i % 16, value);
+    }
+    assert(judged() == TSOTEST_ALLOWED);
+    /* The odd numbers are values; the first even ones are those of the first values of the text. */
+    static const char *front = "{\"cores\":[[{\"a\":0,\"k\":\"R\",\"r\":2,\"s\":null,\"w\":4},{\"a\":1,\"k\":\"R\",\"r\":6,\"s\":null,\"w\":1},"
+                               "{\"a\":2,\"k\":\"R\",\"r\":8,\"s\":null,\"w\":10},";
+    assert(tsotest_recording_text(&r, out, sizeof out, &len) == TSOTEST_NO_FAULT && !memcmp(out, front, strlen(front)));
+}
+
+/* A store buffer that merges: core 0 stores 1 and 2 to x, of which memory sees 2 alone, and then 1 to y. Its bug: the store of 2 comes
+ * after that to y, and yet joins the entry of the first. */
+static void merged_stores(void)
+{
+    const uint64_t x = 0x40, y = 0x44;
+    tsotest_record_begin(&r, 2);
+    tsotest_record_store(&r, 0, x, 1);
+    tsotest_record_store(&r, 0, x, 2);
+    tsotest_record_store(&r, 0, y, 1);
+    tsotest_record_commit_merged(&r, 0, x, 2);
+    tsotest_record_commit_merged(&r, 0, y, 1);
+    tsotest_record_load(&r, 1, y, 1);
+    tsotest_record_load(&r, 1, x, 2);
+    assert(judged() == TSOTEST_ALLOWED);
+    gives(tsotest_recording_text, "{\"cores\":[[{\"a\":0,\"k\":\"S\",\"w\":1},{\"a\":0,\"k\":\"S\",\"w\":2},{\"a\":1,\"k\":\"S\",\"w\":1}],"
+                                  "[{\"a\":1,\"k\":\"L\",\"r\":1,\"s\":2},{\"a\":0,\"k\":\"L\",\"r\":2,\"s\":1}]],\"version\":1,\"writes\":[[0,1],[2]]}\n");
+    logs("cores 2\nst 0 0x40 1\nst 0 0x40 2\nst 0 0x44 1\nld 1 0x44 1\nld 1 0x40 2\nmerged 0 0x40 2\nmerged 0 0x44 1\n");
+
+    tsotest_record_begin(&r, 2);
+    tsotest_record_store(&r, 0, x, 1);
+    tsotest_record_store(&r, 0, y, 1);
+    tsotest_record_store(&r, 0, x, 2);
+    tsotest_record_commit_merged(&r, 0, x, 2);
+    tsotest_record_load(&r, 1, x, 2);
+    tsotest_record_load(&r, 1, y, 0);
+    tsotest_record_commit_merged(&r, 0, y, 1);
+    assert(judged() == TSOTEST_VIOLATION && tsotest_kind_of(out, len) == TSOTEST_CYCLE);
+}
+
+/* A merged commit takes the plain stores of its core and address that wait, and nothing else. */
+static void merged_commits(void)
+{
+    tsotest_record_begin(&r, 2);
+    tsotest_record_store(&r, 1, 0x40, 9);
+    tsotest_record_store(&r, 0, 0x40, 1);
+    tsotest_record_commit(&r, 0, 0x40, 1);
+    tsotest_record_store(&r, 0, 0x40, 2);
+    tsotest_record_commit_merged(&r, 0, 0x40, 3); /* before its store */
+    tsotest_record_store(&r, 0, 0x40, 3);
+    tsotest_record_store(&r, 0, 0x40, 4);
+    tsotest_record_commit(&r, 1, 0x40, 9);
+    tsotest_record_commit(&r, 0, 0x40, 4);
+    gives(tsotest_recording_text, "{\"cores\":[[{\"a\":0,\"k\":\"S\",\"w\":1},{\"a\":0,\"k\":\"S\",\"w\":2},{\"a\":0,\"k\":\"S\",\"w\":3},"
+                                  "{\"a\":0,\"k\":\"S\",\"w\":4}],[{\"a\":0,\"k\":\"S\",\"w\":9}]],\"version\":1,\"writes\":[[0,1,2,4,3]]}\n");
+    tsotest_record_continue(&r);
+    tsotest_record_load(&r, 0, 0x40, 4);
+    assert(judged() == TSOTEST_ALLOWED);
+    /* A store that was merged can't come once more. */
+    tsotest_record_begin(&r, 1);
+    tsotest_record_store(&r, 0, 0x40, 1);
+    tsotest_record_store(&r, 0, 0x40, 2);
+    tsotest_record_commit_merged(&r, 0, 0x40, 2);
+    tsotest_record_commit_merged(&r, 0, 0x40, 1);
+    fails(TSOTEST_STRAY_COMMIT, true, "core 0: the value 1 reached 0x40 twice");
+    /* Without the call a merged store is lost, and so is one that an atomic overtook. */
+    tsotest_record_begin(&r, 1);
+    tsotest_record_store(&r, 0, 0x40, 1);
+    tsotest_record_store(&r, 0, 0x40, 2);
+    tsotest_record_commit(&r, 0, 0x40, 2);
+    fails(TSOTEST_LOST_STORE, true, "operation 0 of core 0 wrote 1 to 0x40");
+    tsotest_record_begin(&r, 1);
+    tsotest_record_store(&r, 0, 0x40, 1);
+    tsotest_record_rmw(&r, 0, 0x40, 0, 2);
+    tsotest_record_commit_merged(&r, 0, 0x40, 2);
+    fails(TSOTEST_LOST_STORE, true, "operation 0 of core 0 wrote 1 to 0x40");
+    tsotest_record_begin(&r, 1);
+    tsotest_record_rmw(&r, 0, 0x40, 0, 1);
+    tsotest_record_store(&r, 0, 0x40, 2);
+    tsotest_record_commit_merged(&r, 0, 0x40, 2);
+    fails(TSOTEST_LOST_STORE, true, "operation 0 of core 0 wrote 1 to 0x40");
+}
+
+/* Invalidations that wait in a queue: core 1 holds a line of x, and core 0 writes it. Within a run a load of the old value is allowed.
+ * After a cut it is not, so the message names what has to be quiet. Its bug: a fence that does not wait until the queue is empty. */
+static void queued_invalidations(void)
+{
+    const uint64_t x = 0x40, y = 0x44;
+    tsotest_record_begin(&r, 2);
+    tsotest_record_load(&r, 1, x, 0);
+    tsotest_record_store(&r, 0, x, 1);
+    tsotest_record_commit(&r, 0, x, 1);
+    tsotest_record_load(&r, 1, x, 0); /* the invalidation waits */
+    assert(judged() == TSOTEST_ALLOWED);
+    tsotest_record_continue(&r);
+    tsotest_record_load(&r, 1, x, 0);
+    fails(TSOTEST_STRAY_VALUE, true,
+          "operation 0 of core 1 read 0 from 0x40, which nobody wrote there; this run continues another: had each core taken every "
+          "invalidation before the cut?");
+    /* Where the queue is empty at the cut, the next run is allowed. */
+    tsotest_record_begin(&r, 2);
+    tsotest_record_store(&r, 0, x, 1);
+    tsotest_record_commit(&r, 0, x, 1);
+    tsotest_record_continue(&r);
+    tsotest_record_load(&r, 1, x, 1);
+    assert(judged() == TSOTEST_ALLOWED);
+    tsotest_record_begin(&r, 2);
+    tsotest_record_load(&r, 1, x, 5);
+    fails(TSOTEST_STRAY_VALUE, true, "which nobody wrote there");
+    assert(!strstr(r.message, "invalidation"));
+
+    tsotest_record_begin(&r, 2);
+    tsotest_record_store(&r, 0, x, 1);
+    tsotest_record_commit(&r, 0, x, 1);
+    tsotest_record_fence(&r, 0);
+    tsotest_record_load(&r, 0, y, 0);
+    tsotest_record_store(&r, 1, y, 1);
+    tsotest_record_commit(&r, 1, y, 1);
+    tsotest_record_fence(&r, 1);      /* must wait for the invalidation of x */
+    tsotest_record_load(&r, 1, x, 0);
+    assert(judged() == TSOTEST_VIOLATION && tsotest_kind_of(out, len) == TSOTEST_CYCLE);
+}
+
 /* The longest texts. */
 static void longest(void)
 {
@@ -294,8 +569,15 @@ int main(void)
     late_value();
     next_runs();
     written_logs();
+    empty();
+    counts();
+    wide_values();
+    many_wide_values();
+    merged_stores();
+    merged_commits();
+    queued_invalidations();
     longest();
     refusals();
-    assert(sizeof r <= 20 * 1024);
+    assert(sizeof r <= 30 * 1024);
     return 0;
 }

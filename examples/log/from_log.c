@@ -1,7 +1,8 @@
 /* SPDX-License-Identifier: MIT OR Apache-2.0 */
-/* Makes a recording of a log, for benches that print and don't call: a line for each event, on standard input.
+/* Makes a recording of a log, for benches that print and don't call: a line for each event.
  *
  *   cores N                         first
+ *   empty                           the recording may have no event
  *   init ADDRESS VALUE              an initial value other than 0
  *   ld CORE ADDRESS VALUE           a load, and what it read
  *   st CORE ADDRESS VALUE           a store, and what it wrote
@@ -10,15 +11,19 @@
  *   fence CORE
  *   source EVENT WRITE              the write that an event read, or `init`; events count from 0 in the order of the log
  *   commit CORE ADDRESS VALUE       a write reached memory
- *   commit EVENT                    the same, by its event
+ *   commit EVENT                    a write reached memory, given by its event
+ *   merged CORE ADDRESS VALUE       a store reached memory, and with it the stores that its entry of the buffer merged
  *
- * Numbers are decimal, or hexadecimal after 0x. A line that begins with # is left out. The recording goes to standard output.
- * The status is 0, or 1 where the log gives none: standard error says why.
+ * Numbers are decimal, or hexadecimal after 0x; values are below 2^64. A line that begins with # is left out.
  *
- *   cc -O2 -I include examples/log/from_log.c -o from_log && ./from_log < examples/log/mp.log | tsotest explain - */
+ * Usage: from_log [FILE..]; the lines of the files, one after another, are one log. Without a file, and for `-`, it reads standard
+ * input. The recording goes to standard output. The status is 0, or 1 where there is no recording: standard error says why.
+ *
+ *   cc -O2 -I include examples/log/from_log.c -o from_log && ./from_log examples/log/mp.log | tsotest explain - */
 #include "tsotest_record.h"
 
 #include <ctype.h>
+#include <errno.h>
 #include <stdlib.h>
 
 enum { MOST = 4 };
@@ -34,47 +39,52 @@ static int numbers(char *at, uint64_t *found)
             return count;
         if (count == MOST || !isdigit((unsigned char)*at))
             return -1;
+        errno = 0;
         found[count++] = strtoull(at, &at, at[0] == '0' && at[1] == 'x' ? 16 : 10);
-        if (*at && !isspace((unsigned char)*at))
+        if (errno || (*at && !isspace((unsigned char)*at)))
             return -1;
     }
+}
+
+/* A core or an event, as the recorder takes it; it has none of so great a number. */
+static int place(uint64_t number)
+{
+    return number > 100000 ? 100000 : (int)number;
 }
 
 /* Records what a line with this many numbers says; 0, or -1. */
 static int record(struct tsotest_record *r, const char *word, int count, const uint64_t *n)
 {
-    int first = n[0] > 100000 ? -1 : (int)n[0];
-    uint32_t second = (uint32_t)n[1], third = (uint32_t)n[2], fourth = (uint32_t)n[3];
-    /* The values are the last numbers of a line; the second of three and more is an address. */
-    for (int i = count == 2 ? 1 : 2; i < count; i++)
-        if (n[i] > UINT32_MAX)
-            return -1;
     if (!strcmp(word, "cores") && count == 1)
-        tsotest_record_begin(r, first);
+        tsotest_record_begin(r, place(n[0]));
+    else if (!strcmp(word, "empty") && count == 0)
+        tsotest_record_allow_empty(r);
     else if (!strcmp(word, "init") && count == 2)
-        tsotest_record_initial(r, n[0], second);
+        tsotest_record_initial(r, n[0], n[1]);
     else if (!strcmp(word, "ld") && count == 3)
-        tsotest_record_load(r, first, n[1], third);
+        tsotest_record_load(r, place(n[0]), n[1], n[2]);
     else if (!strcmp(word, "st") && count == 3)
-        tsotest_record_store(r, first, n[1], third);
+        tsotest_record_store(r, place(n[0]), n[1], n[2]);
     else if (!strcmp(word, "rmw") && count == 4)
-        tsotest_record_rmw(r, first, n[1], third, fourth);
+        tsotest_record_rmw(r, place(n[0]), n[1], n[2], n[3]);
     else if (!strcmp(word, "cas") && count == 3)
-        tsotest_record_failed_cas(r, first, n[1], third);
+        tsotest_record_failed_cas(r, place(n[0]), n[1], n[2]);
     else if (!strcmp(word, "fence") && count == 1)
-        tsotest_record_fence(r, first);
+        tsotest_record_fence(r, place(n[0]));
     else if (!strcmp(word, "commit") && count == 3)
-        tsotest_record_commit(r, first, n[1], third);
+        tsotest_record_commit(r, place(n[0]), n[1], n[2]);
     else if (!strcmp(word, "commit") && count == 1)
-        tsotest_record_commit_event(r, first);
+        tsotest_record_commit_event(r, place(n[0]));
+    else if (!strcmp(word, "merged") && count == 3)
+        tsotest_record_commit_merged(r, place(n[0]), n[1], n[2]);
     else if (!strcmp(word, "source") && count == 2)
-        tsotest_record_source(r, first, second > 100000 ? 100000 : (int)second);
+        tsotest_record_source(r, place(n[0]), place(n[1]));
     else
         return -1;
     return r->error ? -1 : 0;
 }
 
-/* The same of a line whose word ends at a place. */
+/* Records what a line says after its word; 0, or -1. */
 static int read_line(struct tsotest_record *r, const char *word, char *rest)
 {
     uint64_t n[MOST] = {0};
@@ -86,25 +96,48 @@ static int read_line(struct tsotest_record *r, const char *word, char *rest)
     if (count < 0)
         return -1;
     if (init)
-        return count == 1 && n[0] <= 100000 && tsotest_record_source(r, (int)n[0], TSOTEST_INITIAL) >= 0 ? 0 : -1;
+        return count == 1 && tsotest_record_source(r, place(n[0]), TSOTEST_INITIAL) >= 0 ? 0 : -1;
     return record(r, word, count, n);
 }
 
-int main(void)
+/* Records the lines of a file; 0, or -1 where standard error says why. */
+static int read_file(struct tsotest_record *r, const char *name)
 {
-    static struct tsotest_record r;
+    bool is_input = !strcmp(name, "-");
+    FILE *file = is_input ? stdin : fopen(name, "r");
     char line[256];
-    tsotest_record_begin(&r, 0);
-    for (int number = 1; fgets(line, sizeof line, stdin); number++) {
+    int answer = 0;
+    if (!file) {
+        fprintf(stderr, "cannot open %s: %s\n", name, strerror(errno));
+        return -1;
+    }
+    for (int number = 1; !answer && fgets(line, sizeof line, file); number++) {
         char word[8];
         int taken = 0;
         if (line[0] == '#' || sscanf(line, " %7s%n", word, &taken) != 1)
             continue;
-        if (read_line(&r, word, line + taken)) {
-            fprintf(stderr, "line %d: %s\n", number, r.error ? r.message : "not a line of a log");
-            return 1;
-        }
+        answer = read_line(r, word, line + taken);
+        if (answer)
+            fprintf(stderr, "%s, line %d: %s\n", is_input ? "standard input" : name, number, r->error ? r->message : "not a line of a log");
     }
+    if (!answer && ferror(file)) {
+        fprintf(stderr, "cannot read %s: %s\n", name, strerror(errno));
+        answer = -1;
+    }
+    if (!is_input)
+        fclose(file);
+    return answer;
+}
+
+int main(int argc, char **argv)
+{
+    static struct tsotest_record r;
+    const char *input = "-", *const *names = argc > 1 ? (const char *const *)argv + 1 : &input;
+    int count = argc > 1 ? argc - 1 : 1;
+    tsotest_record_begin(&r, 0);
+    for (int i = 0; i < count; i++)
+        if (read_file(&r, names[i]))
+            return 1;
     if (tsotest_write_recording(&r, stdout)) {
         fprintf(stderr, "%s\n", r.error ? r.message : "cannot write");
         return 1;
