@@ -18,7 +18,9 @@ struct text {
 };
 
 static struct tsotest_record record;
-static struct text recording, program, verdict, explanation, reduction;
+static struct text recording, program, verdict, explanation, drawing, reduction;
+/* Of the last call of judge, of all runs before this one, and of all runs. */
+static struct tsotest_counts counts, sums_before, sums;
 static double seconds;
 
 /* Makes room for a text, and says whether there is. */
@@ -60,10 +62,10 @@ static const char *recorded(struct text *text, recorded_text *of)
     return shown(text);
 }
 
-typedef uint8_t told_text(const char *, size_t, const char *, size_t, char *, size_t, size_t *);
+typedef uint8_t text_of(const char *, size_t, const char *, size_t, char *, size_t, size_t *);
 
 /* Fills a text from the recording and its program. */
-static const char *told(struct text *text, told_text *of)
+static const char *answered(struct text *text, text_of *of)
 {
     size_t len = 65535;
     recorded(&recording, tsotest_recording_text);
@@ -83,6 +85,35 @@ static const char *told(struct text *text, told_text *of)
     return nothing(text);
 }
 
+static uint8_t draw_needed(const char *text, size_t len, const char *names, size_t names_len, char *out, size_t room,
+                           size_t *size)
+{
+    return tsotest_draw(text, len, names, names_len, false, out, room, size);
+}
+
+static uint8_t draw_all(const char *text, size_t len, const char *names, size_t names_len, char *out, size_t room,
+                        size_t *size)
+{
+    return tsotest_draw(text, len, names, names_len, true, out, room, size);
+}
+
+/* Counts the run, once however often it is judged. */
+static void count_run(void)
+{
+    memset(&counts, 0, sizeof counts);
+    tsotest_record_count(&record, &counts);
+    sums = sums_before;
+    tsotest_record_count(&record, &sums);
+}
+
+/* Forgets what was said of the last run. */
+static void begin_run(void)
+{
+    nothing(&verdict);
+    memset(&counts, 0, sizeof counts);
+    sums_before = sums;
+}
+
 static int judged(void)
 {
     size_t len = 65535;
@@ -90,6 +121,7 @@ static int judged(void)
     recorded(&recording, tsotest_recording_text);
     if (record.error)
         return tsotest_is_of_design(record.error) ? BROKEN : MISUSED;
+    count_run();
     for (int tries = 0; recording.len && tries < 2 && has_room(&verdict, len); tries++) {
         uint8_t status = tsotest_judge(recording.bytes, recording.len, verdict.bytes, verdict.room - 1, &len);
         if (status == TSOTEST_REFUSED) {
@@ -135,36 +167,41 @@ extern "C" {
 void tsotest_dpi_begin(int cores)
 {
     tsotest_record_begin(&record, cores);
-    nothing(&verdict);
+    begin_run();
 }
 
 void tsotest_dpi_continue(void)
 {
     tsotest_record_continue(&record);
-    nothing(&verdict);
+    begin_run();
 }
 
-void tsotest_dpi_initial(uint64_t address, uint32_t value)
+void tsotest_dpi_allow_empty(void)
+{
+    tsotest_record_allow_empty(&record);
+}
+
+void tsotest_dpi_initial(uint64_t address, uint64_t value)
 {
     tsotest_record_initial(&record, address, value);
 }
 
-void tsotest_dpi_load(int core, uint64_t address, uint32_t value)
+void tsotest_dpi_load(int core, uint64_t address, uint64_t value)
 {
     tsotest_record_load(&record, core, address, value);
 }
 
-void tsotest_dpi_store(int core, uint64_t address, uint32_t value)
+void tsotest_dpi_store(int core, uint64_t address, uint64_t value)
 {
     tsotest_record_store(&record, core, address, value);
 }
 
-void tsotest_dpi_rmw(int core, uint64_t address, uint32_t read, uint32_t value)
+void tsotest_dpi_rmw(int core, uint64_t address, uint64_t read, uint64_t value)
 {
     tsotest_record_rmw(&record, core, address, read, value);
 }
 
-void tsotest_dpi_failed_cas(int core, uint64_t address, uint32_t read)
+void tsotest_dpi_failed_cas(int core, uint64_t address, uint64_t read)
 {
     tsotest_record_failed_cas(&record, core, address, read);
 }
@@ -174,9 +211,34 @@ void tsotest_dpi_fence(int core)
     tsotest_record_fence(&record, core);
 }
 
-void tsotest_dpi_commit(int core, uint64_t address, uint32_t value)
+void tsotest_dpi_commit(int core, uint64_t address, uint64_t value)
 {
     tsotest_record_commit(&record, core, address, value);
+}
+
+void tsotest_dpi_commit_merged(int core, uint64_t address, uint64_t value)
+{
+    tsotest_record_commit_merged(&record, core, address, value);
+}
+
+int tsotest_dpi_last_event(void)
+{
+    return record.error ? -1 : record.events - 1;
+}
+
+void tsotest_dpi_value(int event, uint64_t value)
+{
+    tsotest_record_value(&record, event, value);
+}
+
+void tsotest_dpi_source(int event, int write)
+{
+    tsotest_record_source(&record, event, write);
+}
+
+void tsotest_dpi_commit_event(int event)
+{
+    tsotest_record_commit_event(&record, event);
 }
 
 int tsotest_dpi_judge(void)
@@ -209,12 +271,17 @@ const char *tsotest_dpi_verdict(void)
 
 const char *tsotest_dpi_explanation(void)
 {
-    return told(&explanation, tsotest_explain);
+    return answered(&explanation, tsotest_explain);
+}
+
+const char *tsotest_dpi_drawing(unsigned char all)
+{
+    return answered(&drawing, all ? draw_all : draw_needed);
 }
 
 const char *tsotest_dpi_reduction(void)
 {
-    return told(&reduction, tsotest_reduce);
+    return answered(&reduction, tsotest_reduce);
 }
 
 int tsotest_dpi_save(const char *prefix)
@@ -229,6 +296,30 @@ int tsotest_dpi_save(const char *prefix)
     recorded(&program, tsotest_program_text);
     return !(is_written(prefix, ".json", &recording) && is_written(prefix, ".litmus", &program)
              && is_written(prefix, ".verdict", &verdict));
+}
+
+uint64_t tsotest_dpi_events(void)
+{
+    return counts.events;
+}
+
+uint64_t tsotest_dpi_foreign_reads(void)
+{
+    return counts.foreign_reads;
+}
+
+uint64_t tsotest_dpi_commits(void)
+{
+    return counts.commits;
+}
+
+const char *tsotest_dpi_sums(void)
+{
+    static char line[TSOTEST_MAX_COUNTS_BYTES + 1];
+    size_t len;
+    tsotest_counts_text(&sums, line, TSOTEST_MAX_COUNTS_BYTES, &len);
+    line[len] = '\0';
+    return line;
 }
 
 double tsotest_dpi_seconds(void)

@@ -13,7 +13,7 @@ _Static_assert(TSOTEST_RECORD_CORES == TSOTEST_MAX_CORES && TSOTEST_RECORD_EVENT
 
 enum { ALLOWED = 0, OVERLOOK = 1, CYCLE = 2 };
 
-static void message_passing(uint32_t read)
+static void message_passing(uint64_t read)
 {
     tsotest_dpi_begin(2);
     tsotest_dpi_store(0, 0x40, 1);
@@ -97,6 +97,96 @@ static void chained(void)
     assert(tsotest_dpi_judge() == ALLOWED);
 }
 
+/* A bench that never begins, or whose monitor is bound to nothing, is misused, unless it says that a run may be empty. */
+static void empty(void)
+{
+    assert(tsotest_dpi_judge() == MISUSED && strstr(tsotest_dpi_message(), "no event was recorded")); /* before any begin */
+    assert(tsotest_dpi_last_event() == -1 && tsotest_dpi_events() == 0);
+    assert(!strncmp(tsotest_dpi_sums(), "0 runs: 0 events, 0 reads of another core's write, 0 committed writes\nno read", 77));
+    tsotest_dpi_begin(2);
+    assert(tsotest_dpi_judge() == MISUSED && strstr(tsotest_dpi_message(), "no event was recorded"));
+    tsotest_dpi_begin(2);
+    tsotest_dpi_allow_empty();
+    assert(tsotest_dpi_judge() == ALLOWED && !strcmp(tsotest_dpi_verdict(), "ordered:\n"));
+    tsotest_dpi_continue();
+    assert(tsotest_dpi_judge() == ALLOWED);
+    tsotest_dpi_begin(2);
+    assert(tsotest_dpi_judge() == MISUSED);
+}
+
+/* Counts are those of the run that was judged last, and sums those of all runs, each once. */
+static void counted(void)
+{
+    unsigned long long runs, more, events, foreign, commits;
+    assert(sscanf(tsotest_dpi_sums(), "%llu runs: %llu events, %llu reads of another core's write, %llu committed", &runs, &events, &foreign,
+                  &commits) == 4);
+    message_passing(1);
+    assert(tsotest_dpi_judge() == ALLOWED && tsotest_dpi_judge() == ALLOWED);
+    assert(tsotest_dpi_events() == 4 && tsotest_dpi_foreign_reads() == 2 && tsotest_dpi_commits() == 2);
+    tsotest_dpi_continue();
+    assert(tsotest_dpi_events() == 0 && tsotest_dpi_foreign_reads() == 0 && tsotest_dpi_commits() == 0);
+    tsotest_dpi_load(0, 0x44, 2);
+    assert(tsotest_dpi_judge() == ALLOWED && tsotest_dpi_events() == 1 && tsotest_dpi_foreign_reads() == 0 && tsotest_dpi_commits() == 0);
+    message_passing(7);
+    assert(tsotest_dpi_judge() == BROKEN && tsotest_dpi_events() == 0);
+    char want[256];
+    snprintf(want, sizeof want, "%llu runs: %llu events, %llu reads of another core's write, %llu committed writes\n", runs + 2, events + 5,
+             foreign + 2, commits + 2);
+    assert(sscanf(tsotest_dpi_sums(), "%llu", &more) == 1 && more == runs + 2 && !strcmp(tsotest_dpi_sums(), want));
+}
+
+/* What the recorder has besides: a value that comes late, sources and commits by events, merged stores, values of 64 bits. */
+static void whole_recorder(void)
+{
+    int a, b, load;
+    tsotest_dpi_begin(2);
+    tsotest_dpi_store(0, 0x40, 1);
+    a = tsotest_dpi_last_event();
+    tsotest_dpi_store(1, 0x40, 1);
+    b = tsotest_dpi_last_event();
+    tsotest_dpi_load(1, 0x40, 0);
+    load = tsotest_dpi_last_event();
+    tsotest_dpi_load(0, 0x44, 0);
+    tsotest_dpi_source(tsotest_dpi_last_event(), TSOTEST_INITIAL);
+    tsotest_dpi_value(load, 1);
+    tsotest_dpi_source(load, a);
+    tsotest_dpi_commit_event(b);
+    tsotest_dpi_commit_event(a);
+    assert(a == 0 && b == 1 && load == 2 && tsotest_dpi_last_event() == 3 && tsotest_dpi_judge() == ALLOWED);
+    assert(!strcmp(tsotest_dpi_recording(), "{\"cores\":[[{\"a\":0,\"k\":\"S\",\"w\":1},{\"a\":1,\"k\":\"L\",\"r\":0,\"s\":null}],"
+                                            "[{\"a\":0,\"k\":\"S\",\"w\":1},{\"a\":0,\"k\":\"L\",\"r\":1,\"s\":0}]],\"version\":1,\"writes\":[[2,0],[]]}\n"));
+    tsotest_dpi_begin(1);
+    tsotest_dpi_store(0, 0x40, 0x100000001);
+    tsotest_dpi_store(0, 0x40, 0x100000002);
+    tsotest_dpi_load(0, 0x40, 0x100000002);
+    tsotest_dpi_commit_merged(0, 0x40, 0x100000002);
+    assert(tsotest_dpi_judge() == ALLOWED && !strcmp(tsotest_dpi_program(), "core\nst x40 1\nst x40 2\nld x40\n"));
+    tsotest_dpi_load(0, 0x40, 2);
+    assert(tsotest_dpi_last_event() == 3 && tsotest_dpi_judge() == BROKEN && strstr(tsotest_dpi_message(), "read 2 from 0x40"));
+    assert(tsotest_dpi_last_event() == -1);
+    tsotest_dpi_begin(1);
+    tsotest_dpi_source(0, TSOTEST_INITIAL);
+    assert(tsotest_dpi_judge() == MISUSED && strstr(tsotest_dpi_message(), "event 0 is no read"));
+}
+
+/* A drawing is that of the library, with all events or those that a violation needs. */
+static void drawn(void)
+{
+    char *direct = malloc(65536);
+    size_t len;
+    message_passing(0);
+    tsotest_dpi_fence(0);
+    assert(tsotest_dpi_judge() == CYCLE);
+    for (int all = 0; all < 2; all++) {
+        const char *text = tsotest_dpi_recording(), *names = tsotest_dpi_program();
+        assert(tsotest_draw(text, strlen(text), names, strlen(names), all, direct, 65535, &len) == TSOTEST_VIOLATION && len < 65535);
+        direct[len] = '\0';
+        assert(!strcmp(tsotest_dpi_drawing((unsigned char)all), direct) && !strncmp(direct, "digraph recording", 17));
+        assert(!strstr(direct, "fence") == !all && strstr(direct, "st x44 2"));
+    }
+    free(direct);
+}
+
 /* Texts of more than 64 KB are whole: a verdict, and an explanation, which has a line for an order and then three for each atomic. */
 static void long_texts(void)
 {
@@ -154,6 +244,7 @@ static void unsaved(const char *prefix)
 int main(int argc, char **argv)
 {
     assert(argc == 2);
+    empty();
     message_passing(1);
     assert(tsotest_dpi_judge() == ALLOWED && !strcmp(tsotest_dpi_verdict(), "ordered: 0 1 2 3\n"));
     assert(!strncmp(tsotest_dpi_explanation(), "TSO allows this recording.", 26));
@@ -182,16 +273,19 @@ int main(int argc, char **argv)
     message_passing(7);
     assert(tsotest_dpi_judge() == BROKEN && strstr(tsotest_dpi_message(), "which nobody wrote there"));
     assert(!*tsotest_dpi_recording() && !*tsotest_dpi_program() && !*tsotest_dpi_verdict());
-    assert(!*tsotest_dpi_explanation() && !*tsotest_dpi_reduction());
+    assert(!*tsotest_dpi_explanation() && !*tsotest_dpi_drawing(0) && !*tsotest_dpi_reduction());
     tsotest_dpi_begin(17);
     assert(tsotest_dpi_judge() == MISUSED && strstr(tsotest_dpi_message(), "17 cores"));
     faults();
+    counted();
+    whole_recorder();
+    drawn();
     continued();
     long_texts();
     seconds_of_all();
     unsaved(argv[1]);
-    struct text *texts[] = {&recording, &program, &verdict, &explanation, &reduction};
-    for (int i = 0; i < 5; i++)
+    struct text *texts[] = {&recording, &program, &verdict, &explanation, &drawing, &reduction};
+    for (int i = 0; i < 6; i++)
         free(texts[i]->bytes);
     tsotest_dpi_exit(0);
 }
