@@ -18,18 +18,27 @@
 One file over the shared library, `libtsotest.so`, by `ctypes`: for cocotb benches and scripts. The library is that of the
 environment variable `TSOTEST_LIBRARY`, else that of the installation or the repository that this file stands in, else the one
 that the system's loader finds. Texts, exit statuses and refusals are those of docs/FORMATS.md. Calls may be made by several
-threads at once, each `Recorder` by one. Python 3.11 and later.
+threads at once, each `Recorder` by one, or by several that hold a lock over each step of the design and the call that records it. Python
+3.8 and later.
 """
+import sys
+
+if sys.version_info < (3, 8):
+    raise ImportError("tsotest needs Python 3.8 or later, and this is " + sys.version.split()[0])
+
 import ctypes
 import ctypes.util
+import operator
 import os
-from dataclasses import dataclass
 from enum import IntEnum
-from functools import cache
+from functools import lru_cache
 from pathlib import Path
 from typing import NamedTuple
 
-__all__ = ["Answer", "Finding", "Kind", "NoRecording", "Recorder", "Status", "draw", "explain", "judge", "reduce", "survey", "verify", "version"]
+__all__ = [
+    "Answer", "Counts", "Finding", "Kind", "NoRecording", "Recorder", "Status",
+    "draw", "explain", "judge", "reduce", "survey", "verify", "version",
+]
 
 MAX_CORES, MAX_EVENTS, MAX_ADDRESSES = 16, 512, 16
 
@@ -113,7 +122,7 @@ def _candidates():
         yield found
 
 
-@cache
+@lru_cache(maxsize=None)
 def _library():
     for place in _candidates():
         library = ctypes.CDLL(place)
@@ -223,88 +232,151 @@ class NoRecording(Exception):
         self.is_of_design = is_of_design
 
 
-@dataclass(slots=True)
+class Counts(NamedTuple):
+    """How much was recorded; a sum of two is that of their runs. `str` gives a line, and a second one where nothing was tested."""
+
+    runs: int = 0
+    """Recordings."""
+    events: int = 0
+    """What cores executed."""
+    foreign_reads: int = 0
+    """Reads of a value that another core wrote."""
+    commits: int = 0
+    """Writes that memory took."""
+
+    def __add__(self, other):
+        return Counts(*map(operator.add, self, other))
+
+    def __str__(self):
+        line = "{} runs: {} events, {} reads of another core's write, {} committed writes\n".format(*self)
+        return line if self.foreign_reads else line + "no read got a value that another core wrote: these runs have tested nothing\n"
+
+
 class _Event:
-    kind: str
+    """What a core executed. `given` is the source that the testbench gave, and `source` the one that was found: an event, or `None`."""
+
+    __slots__ = "kind", "core", "address", "read", "written", "given", "source", "number"
+
+    def __init__(self, kind, core, address, read, written):
+        self.kind, self.core, self.address, self.read, self.written = kind, core, address, read, written
+        self.given, self.source, self.number = "unknown", None, 0
+
+
+class _Commit(NamedTuple):
+    """A write that reached memory, perhaps given by its event, perhaps with the stores that were merged with it."""
+
     core: int
-    address: int | None
-    read: int | None
-    written: int | None
-    told: int | None | str = "unknown"
-    source: int | None = None
-    number: int = 0
+    address: int
+    value: int
+    event: object = None
+    is_merged: bool = False
+
+
+class _Numbers:
+    """The numbers in a text for values above 2^32 - 1: in order of first use the least ones from 1 on that are no values."""
+
+    def __init__(self, values):
+        self._taken, self._numbers, self._next = set(values), {}, 1
+
+    def of(self, value):
+        """What the text has for a value."""
+        if value < 1 << 32:
+            return value
+        if value not in self._numbers:
+            while self._next in self._taken:
+                self._next += 1
+            self._numbers[value] = self._next
+            self._next += 1
+        return self._numbers[value]
 
 
 class Recorder:
     """Makes the text of a recording from what a testbench sees.
 
-    Tell what each core executes, in its program order (`load`, `store`, `rmw`, `failed_cas`, `fence`), and in which order the
-    writes of each address reach memory (`commit`); cores and addresses in any order against each other. `recording` then gives
-    the text. It finds the write that each read got its value from by the value: let no two writes of an address write the same
-    value, nor the initial one. Where values repeat, tell sources by `source` and commits by `commit_event`. Each call that
-    records an event gives its number, from 0. A `NoRecording` says what is wrong. The first one is kept: each later call raises it again,
-    `next` too, since what came after it was not recorded.
+    Record what each core executes, in its program order (`load`, `store`, `rmw`, `failed_cas`, `fence`), and in which order the writes of
+    each address reach memory (`commit`). The calls of different cores, and of different addresses, may come in any order. `recording` then
+    gives the text. It finds the write that each read got its value from by the value: let no two writes of an address write the same
+    value, nor the initial one. Where values repeat, name sources by `source` and commits by `commit_event`. Each call that records an
+    event gives its number, from 0.
+
+    An address and a value are whole numbers from 0 to 2^64 - 1. The text has a number in place of each value above 2^32 - 1, as
+    tsotest_record.h says; a message has the value.
+
+    A `NoRecording` says what is wrong. The first one is kept: each later call raises it again, `next` too, since what came after it was
+    not recorded. A recording without an event raises it too, unless `allow_empty` was called.
     """
 
     def __init__(self, cores):
         """Begins a recording of this many cores, 0 to 16."""
-        if not 0 <= cores <= MAX_CORES:
-            raise NoRecording(f"{cores} cores: a recording has {MAX_CORES} at most")
-        self.cores, self._events, self._commits, self._initial, self._addresses = cores, [], [], {}, set()
         self._fault = None
+        self.cores, self._events, self._commits, self._initial, self._addresses = self._whole("cores", cores), [], [], {}, set()
+        self._may_be_empty = self._is_continued = False
+        if self.cores > MAX_CORES:
+            self._fail(f"{cores} cores: a recording has {MAX_CORES} at most")
 
     def next(self):
-        """The recorder of a run that begins with what this one left in memory: of each address the value that reached it last."""
+        """The recorder of a run that begins with what this one left in memory: of each address the value that reached it last.
+
+        Cut a run only where the design is quiet: all has retired, no store waits in a buffer, and each core has taken every invalidation.
+        """
         self._go_on()
         following = Recorder(self.cores)
-        following._initial = {**self._initial, **{address: value for _, address, value, _ in self._commits}}
+        following._initial = {**self._initial, **{it.address: it.value for it in self._commits}}
         following._addresses = set(self._addresses)
+        following._may_be_empty, following._is_continued = self._may_be_empty, True
         return following
 
+    def allow_empty(self):
+        """Says that this recording, and those that continue it, may have no event."""
+        self._may_be_empty = True
+
     def initial(self, address, value):
-        """Tells the value of an address before every write; 0 where nothing is told."""
-        self._used(address)
+        """The value of an address before every write; 0 without this call."""
+        address, value = self._used(address), self._value(value)
         self._initial[address] = value
 
     def load(self, core, address, value):
         """A load, and what it read."""
-        return self._event("L", core, address, value, None)
+        return self._event("L", core, address, self._value(value), None)
 
     def store(self, core, address, value):
         """A store, and what it wrote."""
-        return self._event("S", core, address, None, value)
+        return self._event("S", core, address, None, self._value(value))
 
     def rmw(self, core, address, read, written):
         """An atomic that read and wrote: a swap, an add, a compare-and-swap that succeeded."""
-        return self._event("R", core, address, read, written)
+        return self._event("R", core, address, self._value(read), self._value(written))
 
     def failed_cas(self, core, address, read):
         """A compare-and-swap that wrote nothing."""
-        return self._event("C", core, address, read, None)
+        return self._event("C", core, address, self._value(read), None)
 
     def fence(self, core):
         """A full fence."""
         return self._event("F", core, None, None, None)
 
     def value(self, event, value):
-        """Tells what a read got, where that is known only after later events of its core."""
-        self._read(event).read = value
+        """The value that a read got, where it is known only after later events of its core."""
+        self._read(event).read = self._value(value)
 
     def source(self, event, write):
-        """Tells the write that a read got its value from: an event, or `None` for the initial value."""
+        """The write that a read got its value from: an event, or `None` for the initial value."""
         read = self._read(event)
         if write is not None and not (0 <= write < len(self._events) and self._events[write].written is not None and self._events[write].address == read.address):
             self._fail(f"event {write} is no write of the address that event {event} read")
-        read.told = write
+        read.given = write
 
     def commit(self, core, address, value):
         """A write of this core reached memory, after all writes of the address that did so before."""
-        self._core(core)
-        self._used(address)
-        self._commit(core, address, value, None)
+        self._commit(self._core(core), self._used(address), self._value(value))
+
+    def commit_merged(self, core, address, value):
+        """A store of this core reached memory from an entry of a store buffer that merges: memory took the stores of this core to this
+        address that waited, in program order, and this one last."""
+        self._commit(self._core(core), self._used(address), self._value(value), is_merged=True)
 
     def commit_event(self, event):
-        """A write that was recorded already reached memory, told by its event."""
+        """A write that was recorded already, given by its event, reached memory."""
         self._go_on()
         if not (0 <= event < len(self._events) and self._events[event].written is not None):
             self._fail(f"event {event} is no write")
@@ -313,9 +385,9 @@ class Recorder:
 
     def recording(self):
         """The text of the recording, as `tsotest` itself prints it."""
-        names, committed = self._settle()
-        cores = ",".join("[" + ",".join(self._event_text(it, names) for it in core) + "]" for core in self._by_core())
-        initial = [self._initial.get(it, 0) for it in names]
+        names, committed, number_of = self._settle()
+        cores = ",".join("[" + ",".join(self._event_text(it, names, number_of) for it in core) + "]" for core in self._by_core())
+        initial = [number_of(self._initial.get(it, 0)) for it in names]
         has_init = any(initial) or any(it.kind == "C" for it in self._events)
         init = f'"init":[{",".join(map(str, initial))}],"version":2' if has_init else '"version":1'
         writes = ",".join("[" + ",".join(str(self._events[event].number) for event in committed.get(it, [])) + "]" for it in names)
@@ -323,14 +395,20 @@ class Recorder:
 
     def program(self):
         """The program that was recorded, as a litmus text, for `explain`, `draw` and `reduce`."""
-        names, _ = self._settle()
-        lines = [line for core in self._by_core() for line in ("core", *(self._operation(it, names) for it in core))]
-        lines += [f"init {self._name(it, names)} {self._initial[it]}" for it in names if self._initial.get(it, 0)]
+        names, _, number_of = self._settle()
+        lines = [line for core in self._by_core() for line in ("core", *(self._operation(it, names, number_of) for it in core))]
+        lines += [f"init {self._name(it, names)} {number_of(self._initial[it])}" for it in names if self._initial.get(it, 0)]
         return "".join(f"{it}\n" for it in lines)
 
     def judge(self):
         """The verdict on what was recorded."""
         return judge(self.recording())
+
+    def counts(self):
+        """How much was recorded, in one run."""
+        _, committed, _ = self._settle()
+        foreign = sum(it.read is not None and it.source is not None and self._events[it.source].core != it.core for it in self._events)
+        return Counts(1, len(self._events), foreign, sum(map(len, committed.values())))
 
     def _fail(self, message, is_of_design=False):
         """Keeps a fault, and raises it."""
@@ -342,24 +420,41 @@ class Recorder:
         if self._fault:
             raise NoRecording(*self._fault)
 
+    def _whole(self, noun, number):
+        """A whole number from 0 to 2^64 - 1; all else is a fault of the testbench."""
+        self._go_on()
+        try:
+            whole = operator.index(number)
+        except TypeError:
+            whole = -1
+        if not 0 <= whole < 1 << 64:
+            self._fail(f"{noun} {number!r} is no whole number from 0 to 2^64 - 1")
+        return whole
+
+    def _value(self, value):
+        return self._whole("the value", value)
+
     def _core(self, core):
         self._go_on()
-        if not 0 <= core < self.cores:
-            self._fail(f"core {core}: the recording has {self.cores}")
+        try:
+            if 0 <= operator.index(core) < self.cores:
+                return operator.index(core)
+        except TypeError:
+            pass
+        return self._fail(f"core {core}: the recording has {self.cores}")
 
     def _used(self, address):
-        self._go_on()
+        address = self._whole("the address", address)
         if len(self._addresses | {address}) > MAX_ADDRESSES:
             self._fail(f"address 0x{address:x} is the 17th: a recording has {MAX_ADDRESSES} at most")
         self._addresses.add(address)
+        return address
 
     def _event(self, kind, core, address, read, written):
-        self._core(core)
+        core = self._core(core)
         if len(self._events) == MAX_EVENTS:
             self._fail(f"more than {MAX_EVENTS} events")
-        if address is not None:
-            self._used(address)
-        self._events.append(_Event(kind, core, address, read, written))
+        self._events.append(_Event(kind, core, None if kind == "F" else self._used(address), read, written))
         return len(self._events) - 1
 
     def _read(self, event):
@@ -368,10 +463,10 @@ class Recorder:
             self._fail(f"event {event} is no read")
         return self._events[event]
 
-    def _commit(self, core, address, value, event):
+    def _commit(self, core, address, value, event=None, is_merged=False):
         if len(self._commits) == MAX_EVENTS:
             self._fail(f"more than {MAX_EVENTS} commits")
-        self._commits.append((core, address, value, event))
+        self._commits.append(_Commit(core, address, value, event, is_merged))
 
     def _by_core(self):
         return [[it for it in self._events if it.core == core] for core in range(self.cores)]
@@ -381,8 +476,11 @@ class Recorder:
         return f"operation {sum(e.core == it.core for e in self._events[:event])} of core {it.core}"
 
     def _settle(self):
-        """Finds what was not told: the addresses that events use, in order of first use, and of each its writes in memory order."""
+        """Finds what the testbench did not say: the addresses that events use, in order of first use, of each its writes in memory order,
+        and what the text has for a value."""
         self._go_on()
+        if not self._events and not self._may_be_empty:
+            self._fail("no event was recorded: is a monitor connected?")
         ordered = [it for core in self._by_core() for it in core]
         for number, it in enumerate(ordered):
             it.number = number
@@ -394,34 +492,60 @@ class Recorder:
         for event, it in enumerate(self._events):
             if it.read is not None:
                 self._settle_source(event, it, writes)
-        return list(dict.fromkeys(it.address for it in ordered if it.address is not None)), committed
+        names = list(dict.fromkeys(it.address for it in ordered if it.address is not None))
+        return names, committed, self._numbers(ordered, names)
+
+    def _numbers(self, ordered, names):
+        """What the text has for a value: each above 2^32 - 1 is numbered by its first use there."""
+        initial = [self._initial.get(it, 0) for it in names]
+        numbers = _Numbers([*initial, *(it.written for it in ordered)])
+        for value in (value for it in ordered for value in (it.read, it.written) if value is not None):
+            numbers.of(value)
+        for value in initial:
+            numbers.of(value)
+        return numbers.of
 
     def _settle_commits(self, writes):
         committed, seen = {}, set()
-        for core, address, value, event in self._commits:
-            if event is None:
-                own = [it for it in writes.get((address, value), []) if self._events[it].core == core]
-                if len(own) > 1:
-                    self._fail(f"core {core} wrote {value} to 0x{address:x} twice")
-                if not own:
-                    self._fail(f"core {core}: the value {value} reached 0x{address:x}, and this core executed no such write", True)
-                event = own[0]
+
+        def take(event):
+            it = self._events[event]
             if event in seen:
-                self._fail(f"core {core}: the value {value} reached 0x{address:x} twice", True)
+                self._fail(f"core {it.core}: the value {it.written} reached 0x{it.address:x} twice", True)
             seen.add(event)
-            committed.setdefault(address, []).append(event)
+            committed.setdefault(it.address, []).append(event)
+
+        for commit in self._commits:
+            event = self._committed(commit, writes) if commit.event is None else commit.event
+            if commit.is_merged and self._events[event].kind == "S" and event not in seen:
+                for older in range(event):
+                    it = self._events[older]
+                    if (it.kind, it.core, it.address) == ("S", commit.core, commit.address) and older not in seen:
+                        take(older)
+            take(event)
         for event, it in enumerate(self._events):
             if it.written is not None and event not in seen:
                 self._fail(f"{self._place(event)} wrote {it.written} to 0x{it.address:x}, which never reached memory", True)
         return committed
 
+    def _committed(self, commit, writes):
+        """The write of a core that a commit is of, by its value."""
+        core, address, value = commit[:3]
+        own = [it for it in writes.get((address, value), []) if self._events[it].core == core]
+        if len(own) > 1:
+            self._fail(f"core {core} wrote {value} to 0x{address:x} twice")
+        if not own:
+            self._fail(f"core {core}: the value {value} reached 0x{address:x}, and this core executed no such write", True)
+        return own[0]
+
     def _settle_source(self, event, it, writes):
         initial = self._initial.get(it.address, 0)
-        it.source = it.told
-        if it.told == "unknown":
+        it.source = it.given
+        if it.given == "unknown":
             found = ([None] if it.read == initial else []) + writes.get((it.address, it.read), [])
             if not found:
-                self._fail(f"{self._place(event)} read {it.read} from 0x{it.address:x}, which nobody wrote there", True)
+                cut = "; this run continues another: had each core taken every invalidation before the cut?" if self._is_continued else ""
+                self._fail(f"{self._place(event)} read {it.read} from 0x{it.address:x}, which nobody wrote there{cut}", True)
             if len(found) > 1:
                 self._fail(f"{self._place(event)} read {it.read} from 0x{it.address:x}, of which there are {len(found)} sources")
             it.source = found[0]
@@ -429,27 +553,24 @@ class Recorder:
         if it.read != there:
             self._fail(f"{self._place(event)} read {it.read} from 0x{it.address:x}, and its source wrote {there}", True)
 
-    def _event_text(self, it, names):
+    def _event_text(self, it, names, number_of):
         parts = [f'"a":{names.index(it.address)}'] if it.address is not None else []
         parts.append(f'"k":"{it.kind}"')
         if it.read is not None:
-            parts += [f'"r":{it.read}', f'"s":{"null" if it.source is None else self._events[it.source].number}']
+            parts += [f'"r":{number_of(it.read)}', f'"s":{"null" if it.source is None else self._events[it.source].number}']
         if it.written is not None:
-            parts.append(f'"w":{it.written}')
+            parts.append(f'"w":{number_of(it.written)}')
         return "{" + ",".join(parts) + "}"
 
     def _name(self, address, names):
         return f"x{address:x}" if address < 1 << 28 else f"a{names.index(address)}"
 
-    def _operation(self, it, names):
-        name = None if it.address is None else self._name(it.address, names)
-        match it.kind:
-            case "F":
-                return "fence"
-            case "L":
-                return f"ld {name}"
-            case "S":
-                return f"st {name} {it.written}"
-            case "R":
-                return f"swap {name} {it.written}"
-        return f"cas {name} {(it.read + 1) % (1 << 32)} 0"
+    def _operation(self, it, names, number_of):
+        if it.kind == "F":
+            return "fence"
+        name = self._name(it.address, names)
+        if it.kind == "L":
+            return f"ld {name}"
+        if it.kind == "C":
+            return f"cas {name} {(number_of(it.read) + 1) % (1 << 32)} 0"
+        return f"{'st' if it.kind == 'S' else 'swap'} {name} {number_of(it.written)}"

@@ -228,6 +228,120 @@ def next_runs():
             yield "a recorder goes on after a fault"
 
 
+def empty():
+    """A recorder without an event gives no recording, unless it may."""
+    for calls in ((), (("commit", 0, 0x40, 1),), (("initial", 0x40, 1),)):
+        for text in ("recording", "program", "judge", "counts"):
+            r = tsotest.Recorder(2)
+            for name, *values in calls:
+                getattr(r, name)(*values)
+            if not refused(getattr(r, text), "no event was recorded", False):
+                yield f"an empty recorder has a {text}"
+    r = tsotest.Recorder(2)
+    r.allow_empty()
+    for it in (r, r.next()):
+        if it.recording() != '{"cores":[[],[]],"version":1,"writes":[]}\n' or it.program() != "core\ncore\n" or not it.judge().is_allowed:
+            yield it.recording()
+
+
+def counted():
+    """Counts of a run, their sums, and their text."""
+    r = tsotest.Recorder(2)
+    r.store(0, 0x40, 1)
+    r.rmw(0, 0x44, 0, 7)
+    r.load(0, 0x40, 1)
+    r.load(1, 0x48, 0)
+    r.load(1, 0x40, 1)
+    r.failed_cas(1, 0x44, 7)
+    r.rmw(1, 0x44, 7, 8)
+    r.fence(1)
+    for core, address, value in ((0, 0x40, 1), (0, 0x44, 7), (1, 0x44, 8)):
+        r.commit(core, address, value)
+    if r.counts() != (1, 8, 3, 3) or str(r.counts() + r.counts()) != "2 runs: 16 events, 6 reads of another core's write, 6 committed writes\n":
+        yield repr(r.counts())
+    r = tsotest.Recorder(1)
+    r.load(0, 0x40, 0)
+    want = "1 runs: 1 events, 0 reads of another core's write, 0 committed writes\nno read got a value that another core wrote: these runs have tested nothing\n"
+    if str(sum([r.counts()], tsotest.Counts())) != want:
+        yield str(r.counts())
+
+
+def values():
+    """A value is a whole number below 2^64, and none is cut; all else is a fault of the testbench."""
+    wide = 0x100000001
+    r = tsotest.Recorder(2)
+    r.initial(0x44, 1 << 40)
+    r.store(1, 0x44, 1)
+    r.load(1, 0x40, wide)
+    r.store(0, 0x40, wide)
+    r.failed_cas(0, 0x44, 1 << 40)
+    r.rmw(0, 0x48, 0, (1 << 64) - 1)
+    r.commit(0, 0x40, wide)
+    r.commit(1, 0x44, 1)
+    r.commit(0, 0x48, (1 << 64) - 1)
+    want = (
+        '{"cores":[[{"a":0,"k":"S","w":2},{"a":1,"k":"C","r":3,"s":null},{"a":2,"k":"R","r":0,"s":null,"w":4}],'
+        '[{"a":1,"k":"S","w":1},{"a":0,"k":"L","r":2,"s":0}]],"init":[0,3,0],"version":2,"writes":[[0],[3],[2]]}\n'
+    )
+    if r.recording() != want or r.program() != "core\nst x40 2\ncas x44 4 0\nswap x48 4\ncore\nst x44 1\nld x40\ninit x44 3\n":
+        yield r.recording() + r.program()
+    r = r.next()
+    r.store(0, 0x40, 3 * wide)
+    r.commit(0, 0x40, 3 * wide)
+    if r.recording() != '{"cores":[[{"a":0,"k":"S","w":1}],[]],"init":[2],"version":2,"writes":[[0]]}\n':
+        yield r.recording()
+    r = tsotest.Recorder(1)
+    r.store(0, 64, wide)
+    r.load(0, 64, 1)
+    r.commit(0, 64, wide)
+    if not refused(r.recording, "read 1 from 0x40, which nobody wrote there", True):
+        yield "a value is cut"
+    for it in (-1, 1 << 64, 1.5, 1.0, "1", None):
+        calls = [
+            ("initial", 0x40, it), ("load", 0, 0x40, it), ("store", 0, 0x40, it), ("rmw", 0, 0x40, it, 1), ("rmw", 0, 0x40, 1, it),
+            ("failed_cas", 0, 0x40, it), ("commit", 0, 0x40, it), ("commit_merged", 0, 0x40, it), ("load", 0, it, 0), ("value", 0, it),
+        ]
+        for name, *given in calls:
+            r = tsotest.Recorder(1)
+            r.load(0, 0x40, 0)
+            if not refused(lambda: getattr(r, name)(*given), f"{it!r} is no whole number from 0 to 2^64 - 1", False):
+                yield f"{name} takes {given}"
+    for core in (-1, 1, 0.0, "0"):
+        if not refused(lambda: tsotest.Recorder(1).fence(core), "the recording has 1", False):
+            yield f"{core!r} is a core"
+
+
+def merged():
+    """Merged stores come to memory together; queued invalidations are named after a cut."""
+    r = tsotest.Recorder(2)
+    r.store(1, 0x40, 9)
+    r.store(0, 0x40, 1)
+    r.commit(0, 0x40, 1)
+    r.store(0, 0x40, 2)
+    r.commit_merged(0, 0x40, 3)
+    r.store(0, 0x40, 3)
+    r.store(0, 0x40, 4)
+    r.commit(1, 0x40, 9)
+    r.commit(0, 0x40, 4)
+    if '"writes":[[0,1,2,4,3]]' not in r.recording():
+        yield r.recording()
+    r = r.next()
+    r.load(1, 0x40, 9)
+    if not refused(r.recording, "nobody wrote there; this run continues another: had each core taken every invalidation before the cut?", True):
+        yield "queued invalidations"
+    for older, newer in ((("store", 0, 0x40, 1), ("rmw", 0, 0x40, 0, 2)), (("rmw", 0, 0x40, 0, 1), ("store", 0, 0x40, 2))):
+        r = tsotest.Recorder(1)
+        for name, *values_of in (older, newer, ("commit_merged", 0, 0x40, 2)):
+            getattr(r, name)(*values_of)
+        if not refused(r.recording, "operation 0 of core 0 wrote 1 to 0x40, which never reached memory", True):
+            yield "an atomic is merged"
+    r = tsotest.Recorder(1)
+    for name, *values_of in (("store", 0, 0x40, 1), ("store", 0, 0x40, 2), ("commit_merged", 0, 0x40, 2), ("commit_merged", 0, 0x40, 1)):
+        getattr(r, name)(*values_of)
+    if not refused(r.recording, "core 0: the value 1 reached 0x40 twice", True):
+        yield "a store is merged twice"
+
+
 def names():
     """A name has at most 8 characters: an x and 7 digits."""
     r = tsotest.Recorder(1)
@@ -247,7 +361,7 @@ def main():
     files = [it.relative_to(DATA) for folder in ("classics", "limits", "recordings") for it in sorted(DATA.glob(f"{folder}/*.json"))]
     with ThreadPoolExecutor(4) as pool:
         failed = [it for part in pool.map(lambda file: [*differs(program, file)], files) for it in part]
-    failed += [*surveyed(program), *layouts(), *coded(), *recorders(), *next_runs(), *names()]
+    failed += [*surveyed(program), *layouts(), *coded(), *recorders(), *next_runs(), *empty(), *counted(), *values(), *merged(), *names()]
     if tsotest.version() + "\n" != commanded(program, ["--version"])[1]:
         failed.append(f"the version is {tsotest.version()}")
     print(*failed, sep="\n", end="\n" * bool(failed))

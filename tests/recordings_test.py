@@ -1,5 +1,5 @@
 #!/usr/bin/env python3
-"""Takes recordings of the program's own machine apart, tells their events to the recorders in another order, and wants the same bytes
+"""Takes recordings of the program's own machine apart, records their events by the recorders in another order, and wants the same bytes
 back: of the recorder in C, by examples/log/from_log.c, and of the one in Python.
 
 Usage: recordings_test.py PROGRAM FROM_LOG [RECORDINGS]
@@ -43,6 +43,29 @@ def changed(text, rng):
     return json.dumps(it, sort_keys=True, separators=(",", ":")) + "\n"
 
 
+def widened(recording, rng):
+    """The recording with values of which some are above 2^32 - 1, and its text, in which these are numbered by first use: each has the
+    least number from 1 on that is neither a value nor in use."""
+    events = [it for core in recording["cores"] for it in core]
+    known = {it[key] for it in events for key in "rw" if key in it} | set(recording.get("init", [0] * len(recording["writes"])))
+    wide = {it: rng.choice([it + (1 << 32), it + (rng.randint(1, 1 << 31) << 32), (1 << 64) - 1 - it]) for it in known if it and rng.random() < 0.5}
+    wide = {it: value for it, value in wide.items() if value >= 1 << 32 and list(wide.values()).count(value) == 1}
+    free = (it for it in count(1) if it not in known - set(wide))
+    numbers = {}
+
+    def number_of(value):
+        if value in wide and value not in numbers:
+            numbers[value] = next(free)
+        return numbers.get(value, value)
+
+    def with_values(of):
+        cores = [[{**it, **{key: of(it[key]) for key in "rw" if key in it}} for it in core] for core in recording["cores"]]
+        return {**recording, "cores": cores, **({"init": [of(it) for it in recording["init"]]} if "init" in recording else {})}
+
+    text = json.dumps(with_values(number_of), sort_keys=True, separators=(",", ":")) + "\n"
+    return with_values(lambda it: wide.get(it, it)), text
+
+
 def taken_apart(recording, rng):
     """Its events and commits, cores and write lists interleaved: ("event", E) and ("commit", E) by its own numbers."""
     queues, first = [], 0
@@ -57,7 +80,7 @@ def taken_apart(recording, rng):
 
 
 def is_unique(events, initial):
-    """Whether a value tells its source."""
+    """Whether a value says which write is meant."""
     written = [(it["a"], it["w"]) for it in events if "w" in it] + list(enumerate(initial))
     return len(set(written)) == len(written)
 
@@ -95,8 +118,8 @@ class Python(tsotest.Recorder):
         return {"L": self.load, "S": self.store, "R": self.rmw, "C": self.failed_cas}[kind](core, address, *values)
 
 
-def told(recorder, recording, order, by_value):
-    """Tells a recorder what was taken apart; where values don't tell sources and commits, by events."""
+def recorded(recorder, recording, order, by_value):
+    """A recorder with what was taken apart; where values don't say which sources and commits are meant, these are given by events."""
     events = [it for core in recording["cores"] for it in core]
     core_of = [c for c, core in enumerate(recording["cores"]) for _ in core]
     numbers = {}
@@ -127,7 +150,7 @@ def from_log(filter_, lines):
 def main():
     program, filter_ = sys.argv[1:3]
     wanted = int(sys.argv[3]) if len(sys.argv) > 3 else 200
-    same = by_values = stray = 0
+    same = by_values = wide = stray = 0
     for k in count():
         if same == wanted:
             break
@@ -137,11 +160,14 @@ def main():
             continue
         text = changed(text, rng) if rng.random() < 0.3 else text
         recording = json.loads(text)
+        is_wide = rng.random() < 0.3
+        if is_wide:
+            recording, text = widened(recording, rng)
         events = [it for core in recording["cores"] for it in core]
         order = taken_apart(recording, rng)
         by_value = is_unique(events, recording.get("init", [0] * len(recording["writes"]))) and rng.random() < 0.7
-        log = told(Log(len(recording["cores"])), recording, order, by_value)
-        python = told(Python(len(recording["cores"])), recording, order, by_value)
+        log = recorded(Log(len(recording["cores"])), recording, order, by_value)
+        python = recorded(Python(len(recording["cores"])), recording, order, by_value)
         made = from_log(filter_, log.lines)
         if made.stdout != text or python.recording() != text:
             sys.exit(f"recording {k}: {made.stderr}\nwant   {text}C      {made.stdout}Python {python.recording()}")
@@ -151,15 +177,16 @@ def main():
             sys.exit(f"recording {k} is none of its program: {text}{python.program()}")
         same += 1
         by_values += by_value
+        wide += is_wide
         reads = [i for i, line in enumerate(log.lines) if line.startswith("ld ")]
         if by_value and reads:
             i = rng.choice(reads)
-            log.lines[i] = log.lines[i].rsplit(" ", 1)[0] + " 4000000000"
+            log.lines[i] = log.lines[i].rsplit(" ", 1)[0] + " 4000000000000000000"
             bad = from_log(filter_, log.lines)
             if bad.returncode != 1 or bad.stdout or "nobody wrote" not in bad.stderr:
                 sys.exit(f"recording {k}: a stray value gives {bad}")
             stray += 1
-    print(f"{same} recordings came back to the byte from both recorders, {by_values} by values alone; {stray} stray values were told")
+    print(f"{same} recordings came back to the byte from both recorders, {by_values} by values alone, {wide} with values above 2^32 - 1; {stray} stray values were reported")
 
 
 if __name__ == "__main__":
