@@ -216,6 +216,7 @@ static void empty(void)
     tsotest_record_allow_empty(&r);
     gives(tsotest_recording_text, "{\"cores\":[[],[]],\"version\":1,\"writes\":[]}\n");
     assert(judged() == TSOTEST_ALLOWED);
+    logs("cores 2\nempty\n");
     tsotest_record_continue(&r);
     gives(tsotest_recording_text, "{\"cores\":[[],[]],\"version\":1,\"writes\":[]}\n");
     tsotest_record_begin(&r, 2);
@@ -292,9 +293,11 @@ static void wide_values(void)
     const uint64_t wide = 0x100000001, other = (uint64_t)1 << 40;
     tsotest_record_begin(&r, 2);
     tsotest_record_initial(&r, 0x44, other);
+    tsotest_record_load(&r, 1, 0x48, UINT64_MAX);
     tsotest_record_store(&r, 1, 0x44, 1);
-    tsotest_record_load(&r, 1, 0x40, wide);
+    int late = tsotest_record_load(&r, 1, 0x40, 0);
     tsotest_record_store(&r, 0, 0x40, wide);
+    tsotest_record_value(&r, late, wide);
     tsotest_record_failed_cas(&r, 0, 0x44, other);
     tsotest_record_rmw(&r, 0, 0x48, 0, UINT64_MAX);
     tsotest_record_rmw(&r, 0, 0x48, UINT64_MAX, UINT32_MAX);
@@ -304,10 +307,10 @@ static void wide_values(void)
     tsotest_record_commit(&r, 0, 0x48, UINT32_MAX);
     gives(tsotest_recording_text,
           "{\"cores\":[[{\"a\":0,\"k\":\"S\",\"w\":2},{\"a\":1,\"k\":\"C\",\"r\":3,\"s\":null},{\"a\":2,\"k\":\"R\",\"r\":0,\"s\":null,\"w\":4},"
-          "{\"a\":2,\"k\":\"R\",\"r\":4,\"s\":2,\"w\":4294967295}],[{\"a\":1,\"k\":\"S\",\"w\":1},{\"a\":0,\"k\":\"L\",\"r\":2,\"s\":0}]],"
-          "\"init\":[0,3,0],\"version\":2,\"writes\":[[0],[4],[2,3]]}\n");
-    gives(tsotest_program_text, "core\nst x40 2\ncas x44 4 0\nswap x48 4\nswap x48 4294967295\ncore\nst x44 1\nld x40\ninit x44 3\n");
-    logs("cores 2\ninit 0x44 1099511627776\nst 1 0x44 1\nld 1 0x40 4294967297\nst 0 0x40 4294967297\ncas 0 0x44 1099511627776\n"
+          "{\"a\":2,\"k\":\"R\",\"r\":4,\"s\":2,\"w\":4294967295}],[{\"a\":2,\"k\":\"L\",\"r\":4,\"s\":2},{\"a\":1,\"k\":\"S\",\"w\":1},"
+          "{\"a\":0,\"k\":\"L\",\"r\":2,\"s\":0}]],\"init\":[0,3,0],\"version\":2,\"writes\":[[0],[5],[2,3]]}\n");
+    gives(tsotest_program_text, "core\nst x40 2\ncas x44 4 0\nswap x48 4\nswap x48 4294967295\ncore\nld x48\nst x44 1\nld x40\ninit x44 3\n");
+    logs("cores 2\ninit 0x44 1099511627776\nld 1 0x48 18446744073709551615\nst 1 0x44 1\nld 1 0x40 4294967297\nst 0 0x40 4294967297\ncas 0 0x44 1099511627776\n"
          "rmw 0 0x48 0 18446744073709551615\nrmw 0 0x48 18446744073709551615 4294967295\n"
          "commit 0 0x40 4294967297\ncommit 1 0x44 1\ncommit 0 0x48 18446744073709551615\ncommit 0 0x48 4294967295\n");
     /* The next run begins with the whole value; an initial value that is not read is numbered last. */
