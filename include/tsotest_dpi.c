@@ -52,14 +52,19 @@ static const char *nothing(struct text *text)
 
 typedef enum tsotest_fault recorded_text(struct tsotest_record *, char *, size_t, size_t *);
 
-/* Fills a text from the record. */
-static const char *recorded(struct text *text, recorded_text *of)
+/* Fills a text from the record, and says whether that could be. */
+static int is_recorded(struct text *text, recorded_text *of)
 {
-    if (!has_room(text, TSOTEST_MAX_RECORDING_BYTES))
-        return nothing(text);
-    if (of(&record, text->bytes, text->room - 1, &text->len))
-        return nothing(text);
-    return shown(text);
+    text->len = 0;
+    if (has_room(text, TSOTEST_MAX_RECORDING_BYTES) && !of(&record, text->bytes, text->room - 1, &text->len))
+        return 1;
+    text->len = 0;
+    return 0;
+}
+
+static int are_recorded(void)
+{
+    return is_recorded(&recording, tsotest_recording_text) && is_recorded(&program, tsotest_program_text);
 }
 
 typedef uint8_t text_of(const char *, size_t, const char *, size_t, char *, size_t, size_t *);
@@ -68,9 +73,8 @@ typedef uint8_t text_of(const char *, size_t, const char *, size_t, char *, size
 static const char *answered(struct text *text, text_of *of)
 {
     size_t len = 65535;
-    recorded(&recording, tsotest_recording_text);
-    recorded(&program, tsotest_program_text);
-    for (int tries = 0; recording.len && tries < 2; tries++) {
+    int has_texts = are_recorded();
+    for (int tries = 0; has_texts && tries < 2; tries++) {
         uint8_t status;
         if (!has_room(text, len))
             break;
@@ -97,32 +101,37 @@ static uint8_t draw_all(const char *text, size_t len, const char *names, size_t 
     return tsotest_draw(text, len, names, names_len, true, out, room, size);
 }
 
-/* Counts the run, once however often it is judged. */
-static void count_run(void)
+/* Takes the run out of what was counted. */
+static void uncount_run(void)
 {
     memset(&counts, 0, sizeof counts);
-    tsotest_record_count(&record, &counts);
     sums = sums_before;
+}
+
+/* Counts the run. */
+static void count_run(void)
+{
+    tsotest_record_count(&record, &counts);
     tsotest_record_count(&record, &sums);
 }
 
-/* Forgets what was said of the last run. */
+/* Forgets the last run, which stays in the sums. */
 static void begin_run(void)
 {
     nothing(&verdict);
-    memset(&counts, 0, sizeof counts);
     sums_before = sums;
+    uncount_run();
 }
 
 static int judged(void)
 {
     size_t len = 65535;
+    int has_text = is_recorded(&recording, tsotest_recording_text);
     nothing(&verdict);
-    recorded(&recording, tsotest_recording_text);
+    uncount_run();
     if (record.error)
         return tsotest_is_of_design(record.error) ? BROKEN : MISUSED;
-    count_run();
-    for (int tries = 0; recording.len && tries < 2 && has_room(&verdict, len); tries++) {
+    for (int tries = 0; has_text && tries < 2 && has_room(&verdict, len); tries++) {
         uint8_t status = tsotest_judge(recording.bytes, recording.len, verdict.bytes, verdict.room - 1, &len);
         if (status == TSOTEST_REFUSED) {
             tsotest_record_fail(&record, TSOTEST_FULL, "the judge refuses the recording");
@@ -132,6 +141,7 @@ static int judged(void)
             break;
         if (len < verdict.room) {
             verdict.len = len;
+            count_run();
             return (int)tsotest_kind_of(verdict.bytes, len);
         }
     }
@@ -256,12 +266,14 @@ const char *tsotest_dpi_message(void)
 
 const char *tsotest_dpi_recording(void)
 {
-    return recorded(&recording, tsotest_recording_text);
+    is_recorded(&recording, tsotest_recording_text);
+    return shown(&recording);
 }
 
 const char *tsotest_dpi_program(void)
 {
-    return recorded(&program, tsotest_program_text);
+    is_recorded(&program, tsotest_program_text);
+    return shown(&program);
 }
 
 const char *tsotest_dpi_verdict(void)
@@ -292,9 +304,7 @@ int tsotest_dpi_save(const char *prefix)
         return 1;
     if (record.error)
         return 0;
-    recorded(&recording, tsotest_recording_text);
-    recorded(&program, tsotest_program_text);
-    return !(is_written(prefix, ".json", &recording) && is_written(prefix, ".litmus", &program)
+    return !(are_recorded() && is_written(prefix, ".json", &recording) && is_written(prefix, ".litmus", &program)
              && is_written(prefix, ".verdict", &verdict));
 }
 

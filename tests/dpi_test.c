@@ -127,7 +127,9 @@ static void counted(void)
     assert(tsotest_dpi_events() == 0 && tsotest_dpi_foreign_reads() == 0 && tsotest_dpi_commits() == 0);
     tsotest_dpi_load(0, 0x44, 2);
     assert(tsotest_dpi_judge() == ALLOWED && tsotest_dpi_events() == 1 && tsotest_dpi_foreign_reads() == 0 && tsotest_dpi_commits() == 0);
-    message_passing(7);
+    message_passing(1);
+    assert(tsotest_dpi_judge() == ALLOWED && tsotest_dpi_events() == 4);
+    tsotest_dpi_load(1, 0x40, 7);
     assert(tsotest_dpi_judge() == BROKEN && tsotest_dpi_events() == 0);
     char want[256];
     snprintf(want, sizeof want, "%llu runs: %llu events, %llu reads of another core's write, %llu committed writes\n", runs + 2, events + 5,

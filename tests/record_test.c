@@ -383,6 +383,16 @@ static void merged_stores(void)
     tsotest_record_load(&r, 1, y, 0);
     tsotest_record_commit_merged(&r, 0, y, 1);
     assert(judged() == TSOTEST_VIOLATION && tsotest_kind_of(out, len) == TSOTEST_CYCLE);
+    /* An entry of two words, which memory takes at once, may hold all three. */
+    tsotest_record_begin(&r, 2);
+    tsotest_record_store(&r, 0, x, 1);
+    tsotest_record_store(&r, 0, y, 1);
+    tsotest_record_store(&r, 0, x, 2);
+    tsotest_record_commit_merged(&r, 0, x, 2);
+    tsotest_record_commit_merged(&r, 0, y, 1);
+    tsotest_record_load(&r, 1, x, 2);
+    tsotest_record_load(&r, 1, y, 1);
+    assert(judged() == TSOTEST_ALLOWED);
 }
 
 /* A merged commit takes the plain stores of its core and address that wait, and nothing else. */
