@@ -1,14 +1,17 @@
 /* One record that several threads write, as cores with store buffers over one memory: each holds a lock over a step and the call that
  * records it, so that commits come in the order in which memory took the writes. Every run is one that TSO allows. */
+#define _DEFAULT_SOURCE
 #include "tsotest.h"
 #include "tsotest_record.h"
 
 #include <assert.h>
 #include <pthread.h>
+#include <sched.h>
 
 enum { CORES = 4, OPERATIONS = 32, ADDRESSES = 2, RUNS = 50 };
 
 static pthread_mutex_t lock = PTHREAD_MUTEX_INITIALIZER;
+static pthread_barrier_t all_started;
 static struct tsotest_record r;
 static uint64_t memory[ADDRESSES], counter;
 
@@ -57,7 +60,9 @@ static void *run(void *arg)
 {
     struct core *core = arg;
     unsigned random = (unsigned)core->number * 2654435761u + 1;
+    pthread_barrier_wait(&all_started);
     for (int i = 0; i < OPERATIONS; i++) {
+        sched_yield();
         random = random * 1664525u + 1013904223u;
         if (random >> 31)
             load(core, (int)(random >> 30) & 1);
@@ -76,6 +81,7 @@ int main(void)
     static char text[TSOTEST_MAX_RECORDING_BYTES], verdict[TSOTEST_MAX_VERDICT_BYTES];
     struct tsotest_counts counts = {0, 0, 0, 0};
     size_t len, size;
+    pthread_barrier_init(&all_started, NULL, CORES);
     for (int k = 0; k < RUNS; k++) {
         struct core cores[CORES];
         memset(cores, 0, sizeof cores);
