@@ -1,5 +1,5 @@
 // SPDX-License-Identifier: MIT OR Apache-2.0
-// A testbench in C++: a recorder beside the library, in a class, and what a violation is told.
+// A testbench in C++: a recorder beside the library, in a class, and what is answered of a violation.
 #include "tsotest.h"
 #include "tsotest_record.h"
 

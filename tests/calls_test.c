@@ -97,13 +97,13 @@ static void answers(void)
     /* A 0 byte is a byte of the text. */
     assert(tsotest_judge(ORDERED, sizeof ORDERED, out, sizeof out, &len) == TSOTEST_REFUSED && len == 12);
 
-    const char *told = "No memory order explains this recording: event 1 overlooks event 0, a newer write of its own core.\n"
+    const char *words = "No memory order explains this recording: event 1 overlooks event 0, a newer write of its own core.\n"
                        "  0  core 0  st flag 1\n"
                        "     before 1 in program order\n"
                        "  1  core 0  ld flag = 0, the initial value\n"
                        "     the initial value is older than each write of flag\n"
                        "In diy's words: PosWR Fri (CoWR)\n";
-    wants(explain, OVERLOOK, "core\nst flag 1\nld flag\n", TSOTEST_VIOLATION, told);
+    wants(explain, OVERLOOK, "core\nst flag 1\nld flag\n", TSOTEST_VIOLATION, words);
     const char *programs[][2] = {
         {"core\nst flag 1\nld  flag\n", "refused: L1 line 3\n"},
         {"core\nst flag 4294967296\nld flag\n", "refused: L5 line 2\n"},

@@ -59,15 +59,15 @@ def surveyed(program):
     for finding, line in zip(found, lines, strict=True):
         match finding.kind:
             case tsotest.Kind.ORDERED:
-                told = "ordered"
+                want = "ordered"
             case tsotest.Kind.OVERLOOK:
-                told = "overlook: load {} store {}".format(*finding.overlook)
+                want = "overlook: load {} store {}".format(*finding.overlook)
             case tsotest.Kind.CYCLE:
-                told = f"cycle of {finding.cycle}"
+                want = f"cycle of {finding.cycle}"
             case tsotest.Kind.UNREAD:
                 kind, at = finding.refusal
-                told = f"refused: N{kind}" + (f" event {at}" if kind in (5, 6) else f" address {at}" if kind == 7 else "")
-        if told != line:
+                want = f"refused: N{kind}" + (f" event {at}" if kind in (5, 6) else f" address {at}" if kind == 7 else "")
+        if want != line:
             yield f"survey: {finding}, and the program {line}"
     lines = [line for line in file.read_text().splitlines() if line]
     if tsotest.survey(lines) != found:
@@ -151,8 +151,8 @@ def refused(what, words, is_of_design):
     """Whether a recorder says so."""
     try:
         what()
-    except tsotest.NoRecording as told:
-        return words in str(told) and told.is_of_design == is_of_design
+    except tsotest.NoRecording as fault:
+        return words in str(fault) and fault.is_of_design == is_of_design
     return False
 
 
