@@ -1,0 +1,5 @@
+pub mod OutcomeText
+pub mod ObservedLine
+pub mod Seen
+pub mod Log
+pub mod Report

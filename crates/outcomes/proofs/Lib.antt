@@ -1,0 +1,14 @@
+pub mod Stores
+pub mod Ranges
+pub mod Words
+pub mod Grown
+pub mod Ended
+pub mod Explained
+pub mod Follow
+pub mod Makes
+pub mod Turns
+pub mod Run
+pub mod Ends
+pub mod Allowed
+pub mod Machine
+pub mod Reached

@@ -1,0 +1,504 @@
+-- Whatever moves lead to, the machine does.
+use Rattle.std.proofs.Common.{◌≡◌, ◌<◌, ◌≤◌, ◌+◌, ◌==◌, inl, inr, ℕ, zero, suc, Bool, true, false, cond, Option}
+use Rattle.std.proofs.Common.{Some, None, Result, Ok, Err, List, [], ◌∷◌, ◌++◌, length, get_or, slice_get}
+use Rattle.std.proofs.Common.{drop, arith, refl, sym, ap, subst, ◌∙◌, get_or-set_same}
+use Rattle.std.specs.List.{All}
+use Rattle.std.proofs.lemmas.Bool.{cases_lt, lt-ltb}
+use Rattle.std.proofs.lemmas.List.{set-get_or}
+use Rattle.std.proofs.lemmas.Option.{same_Some, slice_get-get_or, slice_get_within, get_or_from_slice_get}
+use Rattle.program.specs.declared.op.Op.{Op}
+use Rattle.program.specs.declared.op.Op.TheVariants.{St, Ld, Fence, Swap, Add, Cas}
+use Rattle.program.specs.Parts.{IsWithin}
+use Rattle.recording.specs.PlacedLaws.{placed_at}
+use Rattle.recording.specs.Event.{written_address}
+use Rattle.write_buffer.specs.declared.entry.Entry.{Entry}
+use Rattle.write_buffer.specs.Buffer.{youngest}
+use Rattle.moesi.specs.Lines.{is_valid, is_exclusive}
+use Rattle.moesi.specs.State as moesi
+use Rattle.machine.specs.declared.fault.Fault.TheVariants as fault
+use Rattle.machine.specs.declared.step.Step.{Step}
+use Rattle.machine.specs.declared.step.Step.TheVariants as steps
+use Rattle.machine.specs.declared.blocked.Blocked.{Blocked}
+use Rattle.machine.specs.declared.blocked.Blocked.TheVariants.{B2, B3, B4, B5, B7, B8}
+use Rattle.machine.specs.Faults.{without, may_rmw, may_fence}
+use Rattle.machine.specs.State.{State, place_of, buffer_of, line_copy, first_event, event_of, opening}
+use Rattle.machine.specs.Step.{advanced, performed, with_read, written, with_buffer, with_caches, exec}
+use Rattle.machine.specs.Step.{step_result, after}
+use Rattle.machine.specs.Step.{run, or_blocked, looked_up, rmw_value, read_modify_written}
+use Rattle.machine.specs.Step.{read_unmodified, drained, drained_at}
+use Rattle.machine.specs.Orderly.{is_st, is_ld, op_reads, AreStores, IsOrderly}
+use Rattle.machine.specs.RunLaws.{run_append, at_taken, guarded}
+use Rattle.machine.proofs.Cached.{exclusive_read}
+use Rattle.machine.proofs.Complete.{run_in_order}
+use Rattle.machine.proofs.Fitting.{every_state_is_orderly}
+use Rattle.machine.proofs.InOrder.{IsInOrder}
+use Rattle.machine.proofs.Rows.{IsRmw, IsLook, stored_state, loaded_state, rmw_state, allowed_ok, swap_is}
+use Rattle.machine.proofs.DrainEvents.{drained_state}
+use Rattle.machine.proofs.ExecuteEvents.{IsNext, next_placed, next_event}
+use Rattle.replay.specs.Steps.{get_to_read, get_to_write}
+use Rattle.replay.proofs.OrderlyRuns.{StaysOrderly}
+use Rattle.replay.proofs.StepLists.{StepsLead, is_at, fetch_read, fetch_write, write_made}
+use Rattle.outcomes.specs.declared.moves.Move.{Move}
+use Rattle.outcomes.specs.declared.moves.Move.TheVariants.{Exec, Drain}
+use Rattle.outcomes.specs.Situation.{Situation, stores_first, between, ops_of, waiting, oldest, may_go, executed_next}
+use Rattle.outcomes.specs.Situation.{moved, none_waits, drained_by}
+use Rattle.outcomes.specs.Reachable.{Leads, here, further}
+use Rattle.outcomes.specs.Situation as row
+use Rattle.outcomes.proofs.Stores.{entries, entries_few, length_between, no_entries, none_found, a_store, store_stands}
+use Rattle.outcomes.proofs.Follow.{Follows, follow_store}
+use Rattle.outcomes.proofs.Grown.{moved_past}
+use Rattle.outcomes.proofs.Turns.{beside, look_turn, rmw_turn, drain_turn, transact_turn}
+
+-- a guarded answer that is there had its guard
+some_if : (q : Bool) (x y : Situation) → cond q (Some x) None ≡ Some y → q ≡ true
+some_if true x y h = refl
+some_if false x y h = absurd cc
+
+module _ (cs : List (List Op)) (init : List ℕ) (capacity : ℕ)
+    (fits : All (λ ops. All (IsWithin (length init)) ops) cs)
+    (room : (c : ℕ) → length (get_or cs c []) ≤ capacity) where
+  -- steps lead to the state
+  pub record IsRun (s : State) : Type 0 where
+    pub steps : List Step
+    pub leads : run cs capacity fault.None (opening cs init) steps ≡ s
+
+  -- which is in order
+  pub in_order : (s : State) → IsRun s → IsInOrder cs s
+  in_order s h = subst (IsInOrder cs) h.leads (run_in_order cs init capacity h.steps fits)
+
+  -- and stays orderly
+  stays : (s : State) → IsRun s → StaysOrderly cs (length init) capacity s
+  stays s h = record {
+    on = λ more. subst (λ (z : State). IsOrderly cs (length init) z)
+        (run_append cs capacity fault.None (opening cs init) h.steps more
+        ∙ ap (λ (z : State). run cs capacity fault.None z more) h.leads)
+        (every_state_is_orderly cs init capacity (h.steps ++ more) fits);
+  }
+
+  -- more steps lead on
+  steps_run : (s t : State) (more : List Step) → IsRun s → run cs capacity fault.None s more ≡ t → IsRun t
+  steps_run s t more h to = record {
+    steps = h.steps ++ more;
+    leads = run_append cs capacity fault.None (opening cs init) h.steps more
+        ∙ (ap (λ (z : State). run cs capacity fault.None z more) h.leads ∙ to);
+  }
+
+  -- so does a step that is taken
+  step_run : (s t : State) (step : Step) → IsRun s → step_result cs capacity fault.None s step ≡ Ok t → IsRun t
+  step_run s t step h took = steps_run s t (step ∷ []) h (ap (after s) took)
+
+  -- a state of the machine says the same as the situation
+  pub record IsSeen (r : Situation) : Type 0 where
+    pub state : State
+    pub is_run : IsRun state
+    pub follows : Follows cs (length init) state r
+
+  -- A core executes the stores at its place
+
+  pub catch_up : (c : ℕ) → c < length cs → (j : ℕ) (s : State) (r : Situation) → IsRun s
+      → Follows cs (length init) s r → row.place_of r c ≡ place_of s c + j
+      → (t : State) × IsRun t × Follows cs (length init) t r × (place_of t c ≡ row.place_of r c)
+  catch_up c core zero s r h f at = (s, h, f, omega (arith, at))
+  catch_up c core (suc j) s r h f at =
+      let ops : List Op = ops_of cs c in
+      let k : ℕ = place_of s c in
+      let low : ℕ = row.drained_of r c in
+      let g : IsInOrder cs s = in_order s h in
+      let first : stores_first (drop k ops) ≡ suc j = omega (arith, (f.cores c).place, at) in
+      let stands = store_stands ops k j first in
+      let store = a_store (get_or ops k Fence) stands.1 in
+      let b : ℕ = first_event cs c + k in
+      let t : State = stored_state s c b store.0 store.1 in
+      let few : length (buffer_of s c) < capacity = omega (
+        arith,
+        ap (λ (l : List Entry). length l) (f.cores c).buffer,
+        entries_few (between ops low k) (first_event cs c + low),
+        length_between ops low k (f.cores c).within,
+        stands.0,
+        room c,
+      ) in
+      let yes : Result State Blocked = Ok t in
+      let took : step_result cs capacity fault.None s (steps.Exec c) ≡ yes =
+      at_taken cs capacity fault.None s c (get_or ops k Fence) b (is_at cs s c core stands.0)
+      ∙ (ap (exec capacity fault.None s c b) store.2
+      ∙ ap (λ (q : Bool). cond q yes (Err B2)) (lt-ltb (length (buffer_of s c)) capacity few)) in
+      let places : c < length s.places = omega (arith, core, g.steady.places) in
+      let next : Follows cs (length init) t r =
+      follow_store f c core stands.0 places store.0 store.1 b t (omega (arith, core, g.steady.buffers)) store.2 refl
+      refl refl refl refl in
+      catch_up c core j t r (step_run s t (steps.Exec c) h took) next
+      (omega (arith, at, get_or-set_same s.places c (k + 1) 0 places))
+
+  -- Lines
+
+  module _ (s : State) (r : Situation) (h : IsRun s) (f : Follows cs (length init) s r) (c : ℕ)
+      (core : c < length cs) where
+    -- the core has a cache
+    cached : c < s.caches.cores
+    cached = omega (arith, core, (in_order s h).steady.cores)
+
+    module _ (a : ℕ) (inside : a < length s.caches.blocks) where
+      -- a line that is got to be read changes nothing
+      gets_follow : (t : State) → step_result cs capacity fault.None s (steps.GetS c a) ≡ Ok t
+          → Follows cs (length init) t r
+      gets_follow t took =
+          let g = guarded _ _ _ t took in
+          let made = allowed_ok B7 (with_caches s) (moesi.get_s s.caches c a) t g.1 in
+          subst (λ (z : State). Follows cs (length init) z r) made.2
+          (transact_turn f (in_order s h) c cached made.0 a inside (inl made.1))
+
+      -- nor one that is got to be written
+      getm_follow : (t : State) → step_result cs capacity fault.None s (steps.GetM c a) ≡ Ok t
+          → Follows cs (length init) t r
+      getm_follow t took =
+          let g = guarded _ _ _ t took in
+          let made = allowed_ok B7 (with_caches s) (moesi.get_m s.caches c a) t g.1 in
+          subst (λ (z : State). Follows cs (length init) z r) made.2
+          (transact_turn f (in_order s h) c cached made.0 a inside (inr (inl made.1)))
+
+      -- one step or none
+      follow_if : (b : Bool) (step : Step) (t : State)
+          → ((u : State) → step_result cs capacity fault.None s step ≡ Ok u → Follows cs (length init) u r)
+          → StepsLead cs capacity s (cond b [] (step ∷ [])) t → Follows cs (length init) t r
+      follow_if true step t one lead = subst (λ (z : State). Follows cs (length init) z r) lead.1 f
+      follow_if false step t one lead =
+          let took : step_result cs capacity fault.None s step ≡ Ok lead.0.0.0 = lead.0.0.1 in
+          subst (λ (z : State). Follows cs (length init) z r) (sym (ap (after s) took) ∙ lead.1) (one lead.0.0.0 took)
+
+      -- the steps that get a line to read it
+      read_follow : (o : Option Entry) (t : State) → StepsLead cs capacity s (get_to_read s c a o) t
+          → Follows cs (length init) t r
+      read_follow (Some x) t lead = subst (λ (z : State). Follows cs (length init) z r) lead.1 f
+      read_follow None t lead =
+          follow_if (is_valid (moesi.line_of s.caches c a)) (steps.GetS c a) t gets_follow lead
+
+      -- a core gets what a load reads
+      pub read_line : (caches : moesi.CacheState) × IsRun (with_caches s caches)
+          × Follows cs (length init) (with_caches s caches) r
+          × ((what : ℕ × Option ℕ) × (looked_up fault.None (with_caches s caches) c a ≡ Ok what))
+      read_line =
+          let o : Option Entry = youngest (buffer_of s c) a in
+          let got = fetch_read cs (length init) capacity s (stays s h) c a core inside o in (
+            got.0,
+            steps_run s (with_caches s got.0) (get_to_read s c a o) h got.1.0.1,
+            read_follow o (with_caches s got.0) got.1.0,
+            got.2,
+          )
+
+      -- a core gets a line to write it
+      pub write_line : (caches : moesi.CacheState) × IsRun (with_caches s caches)
+          × Follows cs (length init) (with_caches s caches) r × (is_exclusive (moesi.line_of caches c a) ≡ true)
+      write_line =
+          let got = fetch_write cs (length init) capacity s (stays s h) c a core inside in (
+            got.0,
+            steps_run s (with_caches s got.0) (get_to_write s c a) h got.1.0.1,
+            follow_if (is_exclusive (moesi.line_of s.caches c a)) (steps.GetM c a) (with_caches s got.0) getm_follow
+                got.1.0,
+            got.2,
+          )
+
+    -- An operation of the core
+
+    module _ (q : Situation) (op : Op) (next : IsNext cs s c (first_event cs c + place_of s c) op)
+        (is : moved cs r Exec c ≡ Some q) where
+      -- the step of the machine
+      step_is : step_result cs capacity fault.None s (steps.Exec c)
+          ≡ exec capacity fault.None s c (first_event cs c + place_of s c) op
+      step_is = at_taken cs capacity fault.None s c op (first_event cs c + place_of s c) (record {
+        core = core;
+        operation = slice_get-get_or (ops_of cs c) (place_of s c) Fence next.there
+            ∙ ap (λ (o : Op). Some o) next.operation;
+        number = refl;
+      })
+
+      -- it leads to where the move leads
+      turned : (t : State) → exec capacity fault.None s c (first_event cs c + place_of s c) op ≡ Ok t
+          → (u : Situation) × (moved cs r Exec c ≡ Some u) × Follows cs (length init) t u → IsSeen q
+      turned t took turn = record {
+        state = t;
+        is_run = step_run s t (steps.Exec c) h (step_is ∙ took);
+        follows = subst (Follows cs (length init) t) (same_Some turn.0 q (sym turn.1 ∙ is)) turn.2;
+      }
+
+      -- the next event has its place among what is read
+      event_there : first_event cs c + place_of s c < length r.reads
+      event_there = omega (arith, f.reads_size, (placed_at 0 cs c (place_of s c) Fence next.there).1)
+
+      -- also in the machine
+      recorded : first_event cs c + place_of s c < length s.reads
+      recorded = omega (arith, next_event next, (in_order s h).steady.reads)
+
+      -- the address that it reads is there
+      address_there : (a : ℕ) → op_reads op ≡ Some a → a < length init
+      address_there a reads = omega (
+        arith,
+        f.blocks,
+        (in_order s h).steady.reads_within (first_event cs c + place_of s c) a
+            (ap (λ (z : ℕ × Op). op_reads z.1) (next_placed next) ∙ reads),
+      )
+
+      -- an event that writes nothing
+      looks : (what : ℕ × Option ℕ) → IsLook fault.None s c op what
+          → exec capacity fault.None s c (first_event cs c + place_of s c) op
+          ≡ Ok (loaded_state s c (first_event cs c + place_of s c) what) → IsSeen q
+      looks what look took =
+          turned (loaded_state s c (first_event cs c + place_of s c) what) took
+          (look_turn f (in_order s h) c (first_event cs c + place_of s c) core next.core
+          (beside cs cs s c (first_event cs c + place_of s c) op refl next) op next.operation event_there
+          recorded op what
+          look refl address_there)
+
+      -- a read-modify-write
+      modifies : (a : ℕ) (caches : moesi.CacheState) → IsRmw op (line_copy s c a) a → buffer_of s c ≡ []
+          → moesi.write s.caches c a (rmw_value s c op a) (first_event cs c + place_of s c) ≡ Ok caches
+          → exec capacity fault.None s c (first_event cs c + place_of s c) op
+          ≡ Ok (rmw_state s caches c (first_event cs c + place_of s c) a) → IsSeen q
+      modifies a caches rmw empty wrote took =
+          turned (rmw_state s caches c (first_event cs c + place_of s c) a) took
+          (rmw_turn f (in_order s h) c (first_event cs c + place_of s c) core next.core
+          (beside cs cs s c (first_event cs c + place_of s c) op refl next) op next.operation event_there recorded op a
+          caches rmw empty wrote refl (address_there a rmw.reads) cached)
+
+  -- what is written in a line that may be written
+  rmw_made : (s : State) (c b a : ℕ) (op : Op) (caches : moesi.CacheState) → buffer_of s c ≡ []
+      → moesi.write s.caches c a (rmw_value s c op a) b ≡ Ok caches
+      → read_modify_written fault.None s c b op a ≡ Ok (rmw_state s caches c b a)
+  rmw_made s c b a op caches empty wrote =
+      let effect : moesi.CacheState → State =
+      λ k. advanced (performed (written (with_read s b (line_copy s c a)) k a b) b) c in
+      ap (λ (l : List Entry). cond (may_rmw fault.None l)
+      (or_blocked B5 effect (moesi.write s.caches c a (rmw_value s c op a) b)) (Err B3)) empty
+      ∙ ap (or_blocked B5 effect) wrote
+
+  -- A move of a core that has executed the stores at its place
+
+  module _ (s : State) (r : Situation) (h : IsRun s) (f : Follows cs (length init) s r) (c : ℕ)
+      (core : c < length cs) (q : Situation) (is : moved cs r Exec c ≡ Some q) where
+    -- a line leaves the core at its operation
+    next_with : (caches : moesi.CacheState) (op : Op) → IsNext cs s c (first_event cs c + place_of s c) op
+        → IsNext cs (with_caches s caches) c (first_event cs c + place_of s c) op
+    next_with caches op next =
+        record { event = next.event; there = next.there; operation = next.operation; core = next.core }
+
+    module _ (op : Op) (next : IsNext cs s c (first_event cs c + place_of s c) op) where
+      -- the address that it reads has a line
+      line_there : (a : ℕ) → op_reads op ≡ Some a → a < length s.caches.blocks
+      line_there a reads =
+          (in_order s h).steady.reads_within (first_event cs c + place_of s c) a
+          (ap (λ (z : ℕ × Op). op_reads z.1) (next_placed next) ∙ reads)
+
+      -- a load
+      load_seen : (a : ℕ) → op ≡ Ld a → IsSeen q
+      load_seen a load =
+          let reads : op_reads op ≡ Some a = ap op_reads load in
+          let got = read_line s r h f c core a (line_there a reads) in
+          let t : State = with_caches s got.0 in
+          let b : ℕ = first_event cs c + place_of s c in
+          looks t r got.1 got.2 c core q op (next_with got.0 op next) is got.3.0
+          (record {
+            store = ap is_st load;
+            address = ap (λ (o : Op). written_address (event_of o got.3.0)) load;
+            allowed = λ none. inl (ap is_ld load);
+            got = λ k other. inl (subst (λ (z : ℕ). looked_up fault.None t c z ≡ Ok got.3.0)
+                (same_Some a k (sym reads ∙ other)) got.3.1);
+          })
+          (ap (exec capacity fault.None t c b) load
+          ∙ ap (or_blocked B4 (λ what. advanced (performed (with_read t b what) b) c)) got.3.1)
+
+      -- a fence
+      fence_seen : op ≡ Fence → buffer_of s c ≡ [] → IsSeen q
+      fence_seen fence empty =
+          let b : ℕ = first_event cs c + place_of s c in
+          let what : ℕ × Option ℕ = get_or s.reads b (0, None) in
+          let same : loaded_state s c b what ≡ advanced (performed s b) c =
+          ap (λ (l : List (ℕ × Option ℕ)). advanced (performed (record s { reads = l }) b) c)
+          (set-get_or s.reads b (0, None)) in
+          looks s r h f c core q op next is what
+          (record {
+            store = ap is_st fence;
+            address = ap (λ (o : Op). written_address (event_of o what)) fence;
+            allowed = λ none. inr empty;
+            got = λ k other. absurd (let clash : None ≡ Some k = sym (ap op_reads fence) ∙ other in cc);
+          })
+          (ap (exec capacity fault.None s c b) fence
+          ∙ (ap (λ (l : List Entry). cond (may_fence fault.None l) (Ok (advanced (performed s b) c)) (Err B3)) empty
+          ∙ ap (λ (z : State). Ok z) (sym same)))
+
+      -- a swap or an add, which write
+      writes_seen : (a : ℕ) → op_reads op ≡ Some a → is_st op ≡ false → buffer_of s c ≡ []
+          → ((d : ℕ × Option ℕ) → written_address (event_of op d) ≡ Some a)
+          → ((t : State) → exec capacity fault.None t c (first_event cs c + place_of s c) op
+          ≡ read_modify_written fault.None t c (first_event cs c + place_of s c) op a) → IsSeen q
+      writes_seen a reads store empty writes does =
+          let got = write_line s r h f c core a (line_there a reads) in
+          let t : State = with_caches s got.0 in
+          let b : ℕ = first_event cs c + place_of s c in
+          let wrote = write_made got.0 c a (rmw_value t c op a) b got.3 in
+          modifies t r got.1 got.2 c core q op (next_with got.0 op next) is a wrote.0
+          (record { store = store; reads = reads; address = writes (line_copy t c a) }) empty wrote.1
+          (does t ∙ rmw_made t c b a op wrote.0 empty wrote.1)
+
+      -- a compare-and-swap, which writes or only reads
+      cas_seen : (a x v : ℕ) → op ≡ Cas a x v → buffer_of s c ≡ [] → IsSeen q
+      cas_seen a x v cas empty =
+          let reads : op_reads op ≡ Some a = ap op_reads cas in
+          let got = write_line s r h f c core a (line_there a reads) in
+          go got.0 got.1 got.2 got.3 ((line_copy (with_caches s got.0) c a).0 == x) refl
+        where
+          go : (caches : moesi.CacheState) → IsRun (with_caches s caches)
+              → Follows cs (length init) (with_caches s caches) r
+              → is_exclusive (moesi.line_of caches c a) ≡ true → (z : Bool)
+              → ((line_copy (with_caches s caches) c a).0 == x) ≡ z → IsSeen q
+          go caches run follows owned true found =
+              let t : State = with_caches s caches in
+              let b : ℕ = first_event cs c + place_of s c in
+              let wrote = write_made caches c a (rmw_value t c (Cas a x v) a) b owned in
+              modifies t r run follows c core q op (next_with caches op next) is a wrote.0
+              (record {
+                store = ap is_st cas;
+                reads = ap op_reads cas;
+                address = ap (λ (o : Op). written_address (event_of o (line_copy t c a))) cas ∙ rw found refl;
+              }) empty
+              (ap (λ (o : Op). moesi.write caches c a (rmw_value t c o a) b) cas ∙ wrote.1)
+              (ap (exec capacity fault.None t c b) cas
+              ∙ (ap (λ (y : Bool). cond y (read_modify_written fault.None t c b (Swap a v) a)
+              (read_unmodified fault.None t c b a)) found
+              ∙ (sym (swap_is fault.None t c b a x v found) ∙ rmw_made t c b a (Cas a x v) wrote.0 empty wrote.1)))
+          go caches run follows owned false found =
+              let t : State = with_caches s caches in
+              let b : ℕ = first_event cs c + place_of s c in
+              looks t r run follows c core q op (next_with caches op next) is (line_copy t c a)
+              (record {
+                store = ap is_st cas;
+                address = ap (λ (o : Op). written_address (event_of o (line_copy t c a))) cas ∙ rw found refl;
+                allowed = λ none. inr empty;
+                got = λ k other. inr (
+                  λ none. empty,
+                  rw (← same_Some a k (sym (ap op_reads cas) ∙ other)) (exclusive_read caches c a owned),
+                );
+              })
+              (ap (exec capacity fault.None t c b) cas
+              ∙ (ap (λ (y : Bool). cond y (read_modify_written fault.None t c b (Swap a v) a)
+              (read_unmodified fault.None t c b a)) found
+              ∙ (ap (λ (l : List Entry). cond (may_rmw fault.None l)
+              (cond (is_exclusive (moesi.line_of caches c a)) (Ok (loaded_state t c b (line_copy t c a))) (Err B5))
+              (Err B3)) empty
+              ∙ ap (λ (y : Bool). cond y (Ok (loaded_state t c b (line_copy t c a))) (Err B5)) owned)))
+
+    -- whatever the operation is
+    exec_seen : place_of s c ≡ row.place_of r c → (op : Op)
+        → slice_get (ops_of cs c) (row.place_of r c) ≡ Some op → may_go (waiting cs r c) op ≡ true → IsSeen q
+    exec_seen place op at may = by op refl
+      where
+        there : place_of s c < length (ops_of cs c)
+        there = omega (arith, place, slice_get_within (ops_of cs c) (row.place_of r c) op at)
+
+        own : get_or (ops_of cs c) (place_of s c) Fence ≡ op
+        own = ap (λ (k : ℕ). get_or (ops_of cs c) k Fence) place
+            ∙ get_or_from_slice_get (ops_of cs c) (row.place_of r c) op Fence at
+
+        next : IsNext cs s c (first_event cs c + place_of s c) op
+        next = record {
+          event = refl;
+          there = there;
+          operation = own;
+          core = omega (arith, core, (in_order s h).steady.places);
+        }
+
+        empty : may_go (waiting cs r c) op ≡ none_waits (waiting cs r c) → buffer_of s c ≡ []
+        empty same =
+            (f.cores c).buffer
+            ∙ (ap (λ (k : ℕ). entries (first_event cs c + row.drained_of r c)
+            (between (ops_of cs c) (row.drained_of r c) k)) place
+            ∙ no_entries (waiting cs r c) (first_event cs c + row.drained_of r c) (sym same ∙ may))
+
+        by : (o : Op) → op ≡ o → IsSeen q
+        by (St a v) one = absurd (let clash : false ≡ true =
+            sym (ap (may_go (waiting cs r c)) one) ∙ may in cc)
+        by (Ld a) one = load_seen op next a one
+        by Fence one = fence_seen op next one (empty (ap (may_go (waiting cs r c)) one))
+        by (Swap a v) one = writes_seen op next a (ap op_reads one) (ap is_st one)
+            (empty (ap (may_go (waiting cs r c)) one))
+            (λ d. ap (λ (z : Op). written_address (event_of z d)) one)
+            (λ t. ap (exec capacity fault.None t c (first_event cs c + place_of s c)) one
+            ∙ sym (ap (λ (z : Op). read_modify_written fault.None t c (first_event cs c + place_of s c) z a) one))
+        by (Add a v) one = writes_seen op next a (ap op_reads one) (ap is_st one)
+            (empty (ap (may_go (waiting cs r c)) one))
+            (λ d. ap (λ (z : Op). written_address (event_of z d)) one)
+            (λ t. ap (exec capacity fault.None t c (first_event cs c + place_of s c)) one
+            ∙ sym (ap (λ (z : Op). read_modify_written fault.None t c (first_event cs c + place_of s c) z a) one))
+        by (Cas a x v) one = cas_seen op next a x v one (empty (ap (may_go (waiting cs r c)) one))
+
+    -- an operation that is executed
+    execs : place_of s c ≡ row.place_of r c → IsSeen q
+    execs place = go (slice_get (ops_of cs c) (row.place_of r c)) refl is
+      where
+        go : (o : Option Op) → slice_get (ops_of cs c) (row.place_of r c) ≡ o → executed_next cs r c o ≡ Some q
+            → IsSeen q
+        go None at to = absurd (let clash : None ≡ Some q = to in cc)
+        go (Some op) at to = exec_seen place op at (some_if (may_go (waiting cs r c) op) _ q to)
+
+  -- a store that comes to memory
+  drains : (s : State) (r : Situation) → IsRun s → Follows cs (length init) s r → (c : ℕ) → c < length cs
+      → (q : Situation) → moved cs r Drain c ≡ Some q → place_of s c ≡ row.place_of r c → IsSeen q
+  drains s r h f c core q is place = go (buffer_of s c) refl
+    where
+      e : ℕ
+      e = first_event cs c + row.drained_of r c
+
+      known : entries (first_event cs c + row.drained_of r c) (waiting cs r c) ≡ buffer_of s c
+      known = ap (λ (k : ℕ). entries (first_event cs c + row.drained_of r c)
+          (between (ops_of cs c) (row.drained_of r c) k)) (sym place) ∙ sym (f.cores c).buffer
+
+      go : (b : List Entry) → buffer_of s c ≡ b → IsSeen q
+      go [] waits = absurd (let clash : None ≡ Some q =
+          sym (ap (drained_by r c) ((none_found (waiting cs r c) (row.drained_of r c)
+          (first_event cs c + row.drained_of r c) (known ∙ waits)).0)) ∙ is in cc)
+      go (x ∷ xs) waits =
+          let g : IsInOrder cs s = in_order s h in
+          let stores : AreStores cs c (x ∷ xs) = subst (λ (b : List Entry). AreStores cs c b) waits (g.steady.stores c)
+          in
+          let inside : x.addr < length s.caches.blocks =
+          g.steady.writes_within x.event x.addr (0, None)
+          (ap (λ (z : ℕ × Op). written_address (event_of z.1 (0, None))) stores.0) in
+          let got = write_line s r h f c core x.addr inside in
+          let t : State = with_caches s got.0 in
+          let wrote = write_made got.0 c x.addr x.value x.event got.3 in
+          let u : State = drained_state t wrote.0 c x xs in
+          let effect : List Entry → moesi.CacheState → State =
+          λ l k. performed (written (with_buffer t c (without 0 l)) k x.addr x.event) x.event in
+          let took : step_result cs capacity fault.None t (steps.Drain c) ≡ Ok u =
+          ap (λ (z : Bool). cond z (drained fault.None t c) (Err B8)) (lt-ltb c (length cs) core)
+          ∙ (ap (λ (l : List Entry). drained_at t c 0 (slice_get l 0)) waits
+          ∙ (ap (or_blocked B5 (effect (buffer_of s c))) wrote.1
+          ∙ ap (λ (l : List Entry). let z : Result State Blocked = Ok (effect l wrote.0) in z) waits)) in
+          let inner : x.addr < length init = omega (arith, inside, f.blocks) in
+          let turn = drain_turn got.2 (in_order t got.1) c
+          (omega (arith, core, (in_order t got.1).steady.cores)) wrote.0 x xs core
+          (omega (arith, core, (in_order t got.1).steady.buffers)) waits inner wrote.1 in
+          record {
+            state = u;
+            is_run = step_run t u (steps.Drain c) got.1 took;
+            follows = subst (Follows cs (length init) u) (same_Some turn.0 q (sym turn.1 ∙ is)) turn.2;
+          }
+
+  -- so whatever a move leads to is seen
+  move_seen : (r q : Situation) (move : Move) (c : ℕ) → IsSeen r → moved cs r move c ≡ Some q → IsSeen q
+  move_seen r q move c seen is = elim (cases_lt c (length cs)) [
+    | inr past ↦ absurd (let low = moved_past cs r q move c past is 0 in omega (arith, low))
+    | inl core ↦
+        let s : State = seen.state in
+        let ready = catch_up c core (stores_first (drop (place_of s c) (ops_of cs c))) s r seen.is_run seen.follows
+        (seen.follows.cores c).place in
+        go move ready.0 ready.1 ready.2 core ready.3 is
+  ]
+    where
+      go : (m : Move) (t : State) → IsRun t → Follows cs (length init) t r → c < length cs
+          → place_of t c ≡ row.place_of r c → moved cs r m c ≡ Some q → IsSeen q
+      go Exec t h f core place to = execs t r h f c core q to place
+      go Drain t h f core place to = drains t r h f c core q to place
+
+  -- and all that moves lead to
+  pub all_seen : (origin r : Situation) → IsSeen origin → Leads cs origin r → IsSeen r
+  all_seen origin r seen here = seen
+  all_seen origin r seen (further s t move c led is) = move_seen s t move c (all_seen origin s seen led) is

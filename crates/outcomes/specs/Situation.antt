@@ -1,0 +1,175 @@
+-- A machine with store buffers over one memory, without caches and without events: how far each core is, and values.
+use Rattle.std.specs.Prelude.{◌≡◌, ◌+◌, ◌%◌, ◌^◌, ◌==◌, ℕ, suc, Bool, true, false, not, if◌then◌else◌, Option, Some}
+use Rattle.std.specs.Prelude.{None}
+use Rattle.std.specs.Prelude.{List, [], ◌∷◌, map, length, take, drop, replicate, slice_index, slice_index_or}
+use Rattle.std.specs.Prelude.{is_some, slice_get, slice_set}
+use Rattle.std.specs.List.{list_any}
+use Rattle.program.specs.declared.op.Op.{Op}
+use Rattle.program.specs.declared.op.Op.TheVariants.{St, Ld, Swap, Add, Cas}
+use Rattle.program.specs.Parts.{Parts, op_count}
+use Rattle.machine.specs.State.{first_event}
+use Rattle.machine.specs.Orderly.{is_st, op_reads}
+use Rattle.outcomes.specs.declared.moves.Move.{Move}
+use Rattle.outcomes.specs.declared.moves.Move.TheVariants.{Exec, Drain}
+use Rattle.outcomes.specs.declared.ops.Waiting.{Waiting}
+
+-- what was reached
+pub record Situation : Type 0 where
+  -- for each core, the place of the first operation that it has not executed: never a plain store, since these are
+  -- executed at once
+  pub places : List ℕ
+  -- for each core, the place after the last store that memory has
+  pub drained : List ℕ
+  -- for each address, its value in memory
+  pub memory : List ℕ
+  -- for each event, the value that it read
+  pub reads : List ℕ
+
+-- an operation reads
+abbrev pub does_read : Op → Bool
+does_read op = is_some (op_reads op)
+
+-- how many plain stores come first
+abbrev pub stores_first : List Op → ℕ
+stores_first [] = 0
+stores_first (op ∷ ops) = if is_st op then suc (stores_first ops) else 0
+
+-- the first place from k on where no plain store stands
+abbrev pub past_stores : List Op → ℕ → ℕ
+past_stores ops k = k + stores_first (drop k ops)
+
+-- the operations of core c
+abbrev pub ops_of : List (List Op) → ℕ → List Op
+ops_of p c = slice_index_or p c []
+
+-- where core c is
+abbrev pub place_of : Situation → ℕ → ℕ
+place_of r c = slice_index r.places c
+
+-- up to where memory has the stores of core c
+abbrev pub drained_of : Situation → ℕ → ℕ
+drained_of r c = slice_index r.drained c
+
+-- the operations between two places
+abbrev pub between : List Op → ℕ → ℕ → List Op
+between ops d k = drop d (take k ops)
+
+-- the operations of core c among which its waiting stores are
+abbrev pub waiting : List (List Op) → Situation → ℕ → List Op
+waiting p r c = between (ops_of p c) (drained_of r c) (place_of r c)
+
+-- the store that waits at place i, if it is one
+abbrev pub waiting_at : ℕ → Op → Option Waiting
+waiting_at i (St a v) = Some (record { place = i; address = a; value = v })
+waiting_at i op = None
+
+-- the first, unless there is none
+abbrev pub else_later : Option Waiting → Option Waiting → Option Waiting
+else_later (Some x) later = Some x
+else_later None later = later
+
+-- the oldest store of a list that begins at place i
+abbrev pub oldest : ℕ → List Op → Option Waiting
+oldest i [] = None
+oldest i (op ∷ ops) = else_later (waiting_at i op) (oldest (suc i) ops)
+
+-- no store waits
+abbrev pub none_waits : List Op → Bool
+none_waits ops = not (list_any is_st ops)
+
+-- the value that an operation has stored to address a, and v where it is no store to it
+abbrev pub newer : ℕ → ℕ → Op → ℕ
+newer a v (St b w) = if b == a then w else v
+newer a v op = v
+
+-- the value of the youngest store to address a, and v where none waits
+abbrev pub forwarded : ℕ → ℕ → List Op → ℕ
+forwarded a v [] = v
+forwarded a v (op ∷ ops) = forwarded a (newer a v op) ops
+
+-- Effects
+
+-- core c goes on to place k
+abbrev pub with_place : Situation → ℕ → ℕ → Situation
+with_place r c k = record r { places = slice_set r.places c k }
+
+-- core c goes on past the operation at place k, and executes the stores after it
+abbrev pub gone_on : List (List Op) → Situation → ℕ → ℕ → Situation
+gone_on p r c k = with_place r c (past_stores (ops_of p c) (k + 1))
+
+-- event e reads v
+abbrev pub with_read : Situation → ℕ → ℕ → Situation
+with_read r e v = record r { reads = slice_set r.reads e v }
+
+-- address a has the value v
+abbrev pub with_value : Situation → ℕ → ℕ → Situation
+with_value r a v = record r { memory = slice_set r.memory a v }
+
+-- memory has the stores of core c before place k
+abbrev pub with_drained : Situation → ℕ → ℕ → Situation
+with_drained r c k = record r { drained = slice_set r.drained c k }
+
+-- Moves
+
+-- the value that a read-modify-write leaves where it reads v
+abbrev pub left_by : Op → ℕ → ℕ
+left_by (Swap a w) v = w
+left_by (Add a w) v = (v + w) % 2 ^ 32
+left_by (Cas a x w) v = if v == x then w else v
+left_by op v = v
+
+-- event e reads address a and writes it at once, as op says
+abbrev pub modified : Situation → ℕ → ℕ → Op → Situation
+modified r e a op = with_value (with_read r e (slice_index r.memory a)) a (left_by op (slice_index r.memory a))
+
+-- what op does to values as event e, where these stores wait before it
+abbrev pub performed : Situation → List Op → ℕ → Op → Situation
+performed r ops e (Ld a) = with_read r e (forwarded a (slice_index r.memory a) ops)
+performed r ops e (Swap a w) = modified r e a (Swap a w)
+performed r ops e (Add a w) = modified r e a (Add a w)
+performed r ops e (Cas a x w) = modified r e a (Cas a x w)
+performed r ops e op = r
+
+-- whether op may be executed where these stores wait before it; a plain store never stands there
+abbrev pub may_go : List Op → Op → Bool
+may_go ops (St a v) = false
+may_go ops (Ld a) = true
+may_go ops op = none_waits ops
+
+-- what op of core c, at place k and with the number e, leads to
+abbrev pub executed : List (List Op) → Situation → ℕ → ℕ → ℕ → Op → Option Situation
+executed p r c k e op =
+    if may_go (waiting p r c) op then Some (gone_on p (performed r (waiting p r c) e op) c k) else None
+
+-- what the next operation of core c does, where one is left
+abbrev pub executed_next : List (List Op) → Situation → ℕ → Option Op → Option Situation
+executed_next p r c None = None
+executed_next p r c (Some op) = executed p r c (place_of r c) (first_event p c + place_of r c) op
+
+-- a store of core c comes to memory
+abbrev pub drained_by : Situation → ℕ → Option Waiting → Option Situation
+drained_by r c None = None
+drained_by r c (Some x) = Some (with_value (with_drained r c (x.place + 1)) x.address x.value)
+
+-- what a move of core c leads to; none where it cannot be made
+abbrev pub moved : List (List Op) → Situation → Move → ℕ → Option Situation
+moved p r Exec c = executed_next p r c (slice_get (ops_of p c) (place_of r c))
+moved p r Drain c = drained_by r c (oldest (drained_of r c) (waiting p r c))
+
+-- where a program begins
+abbrev pub beginning : Parts → Situation
+beginning p = record {
+  places = map stores_first p.cores;
+  drained = replicate (length p.cores) 0;
+  memory = p.init;
+  reads = replicate (op_count p.cores) 0;
+}
+
+-- core c has come to its end
+abbrev pub IsOver : List (List Op) → Situation → ℕ → Type 0
+IsOver p r c = (slice_get (ops_of p c) (place_of r c) ≡ None)
+    × (oldest (drained_of r c) (waiting p r c) ≡ None)
+
+-- every core of the program has
+abbrev pub IsEnd : List (List Op) → Situation → Type 0
+IsEnd p r = (c : ℕ) → IsOver p r c

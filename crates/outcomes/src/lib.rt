@@ -1,0 +1,24 @@
+//! The outcomes that TSO allows of a program.
+#![tactic(auto)]
+
+mod law;
+mod list;
+mod moves;
+mod observed;
+mod opening;
+mod ops;
+mod outcome;
+mod reads;
+mod row;
+mod seen;
+mod steps;
+
+pub use law::every_outcome_is_reached;
+pub use list::outcomes;
+pub use moves::Move;
+pub use observed::{Observation, explains, is_of_one, shows_all};
+pub use opening::beginning;
+pub use outcome::Outcome;
+pub use reads::{does_read, first_event, value_at};
+pub use row::Row;
+pub use seen::search;

@@ -1,0 +1,91 @@
+//! The outcomes that TSO allows of a program.
+
+ghost use Rattle.std.specs.Prelude.{◌≡◌, ◌<◌, ◌≤◌, ◌↔◌, ℕ, All, Contains, IfNone, IfOk, IfSome, OnOk, IsTrue, length};
+ghost use Rattle.outcomes.specs.Outcome.{AreOutcomes};
+ghost use Rattle.outcomes.specs.Situation.{Situation, IsEnd, IsOver};
+ghost use Rattle.outcomes.specs.Reachable.{HasMore, outcome_in};
+ghost use Rattle.std.specs.List.{IsDistinct};
+ghost use Rattle.std.specs.List.Sorted.{IsSorted};
+ghost use Rattle.outcomes.specs.Listed.{AreEndings, compared, same_outcome, with_outcome};
+
+use crate::law::every_outcome_is_reached;
+use crate::ops::{between, oldest};
+use crate::outcome::Outcome;
+use crate::row::Row;
+use crate::seen::search;
+use common::{CoreId, OutOfMemory};
+use indexmap::IndexSet;
+use program::Program;
+use std::alloc::Global;
+
+/// Whether a core has come to its end.
+fn is_over(program: &Program, row: &Row, core: usize) -> bool
+    requires { core < length program.now.cores }
+    ensures { IsTrue result ↔ IsOver program.now.cores row.now core }
+{
+    program.sound();
+    let ops = program.ops(core as CoreId);
+    let place = row.place(core);
+    if place < ops.len() {
+        return false;
+    }
+    let from = row.drained(core);
+    oldest(from, between(ops, from, place)).is_none()
+}
+
+/// Whether every core has come to its end.
+fn is_end(program: &Program, row: &Row) -> bool
+    ensures { IsTrue result ↔ IsEnd program.now.cores row.now }
+{
+    for core in 0..program.cores() {
+        if !is_over(program, row, core) {
+            return false;
+        }
+    }
+    true
+}
+
+/// Adds the outcome of a row, unless it is there.
+fn add(alloc: Global, row: &Row, found: &mut IndexSet<Outcome>) -> Result<(), OutOfMemory>
+    ensures { OnOk result (found.new.keys ≡ with_outcome found.old.keys (outcome_in row.now)) }
+{
+    let reads = Vec::from_slice(alloc, row.reads())?;
+    let memory = Vec::from_slice(alloc, row.memory())?;
+    let _new = found.insert(Outcome::new(reads, memory))?;
+    Ok(())
+}
+
+/// The outcomes of the rows in which every core has come to its end.
+fn endings(alloc: Global, program: &Program, rows: &[Row]) -> Result<IndexSet<Outcome>, OutOfMemory>
+    ensures { IfOk result (λ found. AreEndings program.now.cores rows.now found.keys) }
+{
+    let mut found = IndexSet::new(alloc);
+    for row in rows {
+        if is_end(program, row) {
+            add(alloc, row, &mut found)?;
+        }
+    }
+    Ok(found)
+}
+
+/// The outcomes that TSO allows of a program, each once, in dictionary order; None where the search would look at more
+/// than `limit` situations. Fails only if out of memory.
+pub fn outcomes(
+    alloc: Global,
+    program: &Program,
+    limit: usize,
+) -> Result<Option<IndexSet<Outcome>>, OutOfMemory>
+    ensures exact { IfOk result (λ o. IfSome o (λ found. AreOutcomes program.now found.keys)) }
+    ensures more { IfOk result (λ o. IfNone o (HasMore program.now limit)) }
+    ensures sorted { IfOk result (λ o. IfSome o (λ found. IsSorted compared found.keys)) }
+    ensures once { IfOk result (λ o. IfSome o (λ found. IsDistinct same_outcome found.keys)) }
+{
+    every_outcome_is_reached();
+    program.sound();
+    let Some(seen) = search(alloc, program, limit)? else {
+        return Ok(None);
+    };
+    let mut found = endings(alloc, program, seen.as_slice())?;
+    found.sort()?;
+    Ok(Some(found))
+}
