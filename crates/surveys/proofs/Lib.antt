@@ -8,3 +8,4 @@ pub mod LineCodes
 pub mod Batches
 pub mod FoundLemmas
 pub mod LineLemmas
+pub mod Long

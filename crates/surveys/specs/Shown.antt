@@ -14,7 +14,7 @@ abbrev pub IsLineOf : List ℕ → ℕ → Option (List ℕ) → Type 0
 IsLineOf bytes k None = length (lines bytes) ≤ k
 IsLineOf bytes k (Some line) = IsLineAt bytes k line
 
--- the same of the bytes that were read
+-- the line of number k of the bytes that were read, or that there are fewer
 pub record IsLineOfRead (left_before left_after : Option (List ℕ)) (k : ℕ) (line : Option (List ℕ)) : Type 0 where
   pub bytes : List ℕ
   pub read : Consumes left_before left_after bytes
@@ -29,7 +29,7 @@ abbrev pub IsSought : List ℕ → ℕ → Sought → Type 0
 IsSought bytes k (Found line) = IsLineAt bytes k line.items
 IsSought bytes k (Later m) = k ≡ length (lines bytes) + m
 
--- the same of the first bytes of a block, n of them, after which a line begins
+-- the line of number k of the first n bytes of a block, after which a line begins, or which number it has after them
 pub record IsSoughtFirst (block rest : List ℕ) (k : ℕ) (sought : Sought) (n : ℕ) : Type 0 where
   pub front : List ℕ
   pub cut : block ≡ front ++ rest

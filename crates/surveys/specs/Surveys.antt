@@ -1,5 +1,5 @@
 -- What a survey counts, and what it tells.
-use Rattle.std.specs.Prelude.{ℕ, [], List, Option, Bool, if◌then◌else◌}
+use Rattle.std.specs.Prelude.{◌≤◌, ◌^◌, ℕ, [], List, Option, Bool, if◌then◌else◌, length, ⊤}
 use Rattle.std.specs.Io.KnownBytes.{Appends, Consumes}
 use Rattle.ledger.specs.declared.finding.Finding.{Finding}
 use Rattle.ledger.specs.declared.ledger.Ledger.{Ledger}
@@ -7,7 +7,7 @@ use Rattle.ledger.specs.Counts.{IsLedger}
 use Rattle.surveys.specs.declared.error.SurveyError.{SurveyError}
 use Rattle.devices.specs.declared.whole.ReadError.{ReadError}
 use Rattle.devices.specs.declared.whole.ReadError.TheVariants as errors
-use Rattle.surveys.specs.declared.error.SurveyError.TheVariants.{ReadFailed, WriteFailed, OutOfMemory}
+use Rattle.surveys.specs.declared.error.SurveyError.TheVariants.{ReadFailed, WriteFailed, OutOfMemory, TooLong}
 use Rattle.surveys.specs.Each.{each_text}
 use Rattle.surveys.specs.Found.{AreFindings, codes_of}
 use Rattle.surveys.specs.Lines.{IsCut, lines}
@@ -61,3 +61,14 @@ survey_failed_reads other = 0
 abbrev pub survey_failed_writes : SurveyError → ℕ
 survey_failed_writes WriteFailed = 1
 survey_failed_writes other = 0
+
+-- so many bytes are too many only where they are 2^64 or more
+abbrev pub IsLong : SurveyError → ℕ → Type 0
+IsLong TooLong n = 2 ^ 64 ≤ n
+IsLong other n = ⊤
+
+-- the same of the bytes that were read
+abbrev pub IsLongRead : SurveyError → Option (List ℕ) → Option (List ℕ) → Type 0
+IsLongRead TooLong left_before left_after =
+    (bytes : List ℕ) × Consumes left_before left_after bytes × (2 ^ 64 ≤ length bytes)
+IsLongRead other left_before left_after = ⊤

@@ -7,7 +7,7 @@ ghost use Rattle.devices.specs.Bytes.{CanGrow, CountsBy};
 ghost use Rattle.ledger.specs.Counts.{IsLedger};
 ghost use Rattle.surveys.specs.Claims.{AreClaims, ArePlaces, IsFoundAt};
 ghost use Rattle.surveys.specs.Found.{AreFindings, codes_of};
-ghost use Rattle.surveys.specs.Surveys.{ExtendsSurvey, IsSurveyUpTo, told_text};
+ghost use Rattle.surveys.specs.Surveys.{ExtendsSurvey, IsLong, IsSurveyUpTo, told_text};
 ghost use Rattle.surveys.specs.Surveys.{survey_failed_reads, survey_failed_writes};
 
 use crate::claims::{Claim, claims_by};
@@ -130,6 +130,7 @@ fn write_findings<W: Sink>(
     requires writes { CanGrow (W.write_failures sink.old) }
     ensures ok { OnOk result
         (Appends (W.written sink.old) (W.written sink.new) (told_text each first findings.now)) }
+    ensures short { IfErr result (λ e. IsLong e 0) }
     ensures reads { IfErr result (λ e. survey_failed_reads e ≡ 0) }
     ensures writes { CountsBy survey_failed_writes (W.write_failures sink.old) (W.write_failures sink.new) result }
     ensures silent { each ≢ true → sink.new ≡ sink.old }
@@ -171,6 +172,7 @@ fn count_some<'a, R: Threads + Sync, W: Sink, G: Gate>(
     ensures shorter { IfOk result (λ rest. length rest.now < length bytes.now) }
     ensures ok { IfOk result (λ rest. ExtendsSurvey bytes.now rest.now each
         ledger.old (W.written sink.old) ledger.new (W.written sink.new)) }
+    ensures short { IfErr result (λ e. IsLong e 0) }
     ensures reads { IfErr result (λ e. survey_failed_reads e ≡ 0) }
     ensures writes { CountsBy survey_failed_writes (W.write_failures sink.old) (W.write_failures sink.new) result }
     ensures silent { each ≢ true → sink.new ≡ sink.old }
@@ -200,6 +202,7 @@ pub(crate) fn count_all<R: Threads + Sync, W: Sink, G: Gate>(
         × IsSurveyUpTo all bytes.now ledger.old each start (W.written sink.old) }
     ensures ok { OnOk result (ExtendsSurvey bytes.now [] each
         ledger.old (W.written sink.old) ledger.new (W.written sink.new)) }
+    ensures short { IfErr result (λ e. IsLong e 0) }
     ensures reads { IfErr result (λ e. survey_failed_reads e ≡ 0) }
     ensures writes { CountsBy survey_failed_writes (W.write_failures sink.old) (W.write_failures sink.new) result }
     ensures silent { each ≢ true → sink.new ≡ sink.old }

@@ -4,7 +4,7 @@ ghost use Rattle.std.specs.Prelude.{◌≡◌, ◌≢◌, ◌<◌, ◌≤◌, tr
 ghost use Rattle.std.specs.Io.KnownBytes.{IsAtEnd};
 ghost use Rattle.devices.specs.Bytes.{CanGrow, CountsBy, Gathers};
 ghost use Rattle.surveys.specs.Lines.{IsWhole};
-ghost use Rattle.surveys.specs.Surveys.{survey_failed_reads, survey_failed_writes};
+ghost use Rattle.surveys.specs.Surveys.{IsLong, survey_failed_reads, survey_failed_writes};
 
 use crate::error::SurveyError;
 use devices::{Source, read_more};
@@ -32,6 +32,7 @@ pub(crate) fn fill<R: Source>(
     ensures met { IfOk result (λ more. more ≢ true → R.is_ended source.new ≡ true) }
     ensures all { IfOk result (λ more. more ≢ true → IsAtEnd (R.left source.new)) }
     ensures count { CountsBy survey_failed_reads (R.read_failures source.old) (R.read_failures source.new) result }
+    ensures short { IfErr result (λ e. IsLong e 0) }
     ensures writes { IfErr result (λ e. survey_failed_writes e ≡ 0) }
 {
     let first = read_more(source, chunk, block)?;

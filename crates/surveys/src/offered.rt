@@ -1,7 +1,7 @@
 //! Batches that are offered to workers, and counted in order.
 
-ghost use Rattle.std.specs.Prelude.{◌≡◌, ◌≤◌, ℕ, List, Option, false, IfErr, IfOk, drop, length};
-ghost use Rattle.surveys.specs.Surveys.{survey_failed_reads, survey_failed_writes};
+ghost use Rattle.std.specs.Prelude.{◌≡◌, ◌≤◌, ◌+◌, ℕ, List, Option, false, IfErr, IfOk, drop, length};
+ghost use Rattle.surveys.specs.Surveys.{IsLong, survey_failed_reads, survey_failed_writes};
 ghost use Rattle.surveys.specs.Tallies.{IsTallied, IsTally};
 
 use crate::batch::Batch;
@@ -27,6 +27,8 @@ fn count_batch(
     ensures within { IfOk result (λ r. r.1 ≤ length bytes.now) }
     ensures ok { IfOk result (λ r. (w : Option (List ℕ)) → IsTallied false bytes.now (drop r.1 bytes.now)
         ledger.old counted w ledger.new r.0 w) }
+    ensures size { IfOk result (λ r. r.0 ≡ counted + r.1) }
+    ensures long { IfErr result (λ e. IsLong e (counted + length bytes.now)) }
     ensures reads { IfErr result (λ e. survey_failed_reads e ≡ 0) }
     ensures writes { IfErr result (λ e. survey_failed_writes e ≡ 0) }
 {
@@ -60,6 +62,8 @@ fn count_batches<R: Wait, G: Gate>(
     ensures within { IfOk result (λ r. r.1 ≤ length bytes.now) }
     ensures ok { IfOk result (λ r. (w : Option (List ℕ)) → IsTallied false bytes.now (drop r.1 bytes.now)
         ledger.old counted w ledger.new r.0 w) }
+    ensures size { IfOk result (λ r. r.0 ≡ counted + r.1) }
+    ensures long { IfErr result (λ e. IsLong e (counted + length bytes.now)) }
     ensures reads { IfErr result (λ e. survey_failed_reads e ≡ 0) }
     ensures writes { IfErr result (λ e. survey_failed_writes e ≡ 0) }
 {
@@ -97,6 +101,7 @@ pub(crate) fn count_offered<R: Wait, G: Gate>(
         × IsTally false front ledger.old counted start now }
     ensures ok { IfOk result (λ n. (w : Option (List ℕ)) → IsTallied false block.old.items block.new.items
         ledger.old counted w ledger.new n w) }
+    ensures long { IfErr result (λ e. IsLong e (counted + length block.old.items)) }
     ensures reads { IfErr result (λ e. survey_failed_reads e ≡ 0) }
     ensures writes { IfErr result (λ e. survey_failed_writes e ≡ 0) }
 {

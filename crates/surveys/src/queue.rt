@@ -281,9 +281,9 @@ impl WorkQueue {
         held.take()
     }
 
-    /// Judges batches until the queue is closed.
+    /// Judges batches until the queue is closed, or 2^64 - 1 of them.
     pub(crate) fn work<R: Wait, G: Gate>(&self, rt: &R, alloc: Global, gate: &G, worker: usize) {
-        for _ in rt.forever() {
+        for _ in 0..u64::MAX {
             let Some((at, batch)) = self.take(rt) else {
                 break;
             };
@@ -300,7 +300,7 @@ impl WorkQueue {
         held.turn(kept)
     }
 
-    /// The oldest batch, judged; none where no more than this many bytes lie here.
+    /// The oldest batch, judged; none where no more than this many bytes lie here, or after 2^64 - 1 turns.
     pub(crate) fn collect<R: Wait, G: Gate>(
         &self,
         rt: &R,
@@ -308,14 +308,14 @@ impl WorkQueue {
         kept: usize,
         gate: &G,
     ) -> Option<Batch> {
-        for _ in rt.forever() {
+        for _ in 0..u64::MAX {
             match self.turn(rt, kept) {
                 Turn::Over => return None,
                 Turn::Collected(batch) => return Some(batch),
                 Turn::Judge(at, batch) => self.judge(rt, alloc, at, batch, gate, 0),
             }
         }
-        unreachable!()
+        None
     }
 
     /// Ends the work of all workers.

@@ -1,10 +1,10 @@
 //! One line of a source.
 
-ghost use Rattle.std.specs.Prelude.{◌≡◌, ◌<◌, true, IfErr, IfOk, OnOk, length, option_map};
+ghost use Rattle.std.specs.Prelude.{◌≡◌, ◌<◌, true, IfErr, IfOk, IfSome, OnOk, length, option_map};
 ghost use Rattle.std.specs.Io.KnownBytes.{IsAtEnd};
 ghost use Rattle.devices.specs.Bytes.{CanGrow, CountsBy};
 ghost use Rattle.surveys.specs.Shown.{IsLineOfRead, IsReadOn, IsSought, IsSoughtFirst};
-ghost use Rattle.surveys.specs.Surveys.{survey_failed_reads, survey_failed_writes};
+ghost use Rattle.surveys.specs.Surveys.{IsLong, IsLongRead, survey_failed_reads, survey_failed_writes};
 
 use crate::error::SurveyError;
 use crate::filling::{CHUNK, fill, keep_rest, last_end};
@@ -77,6 +77,7 @@ fn read_rest<R: Source>(
     ensures read { OnOk result (IsReadOn (R.left source.old) (R.left source.new)) }
     ensures met { OnOk result (R.is_ended source.new ≡ true) }
     ensures all { OnOk result (IsAtEnd (R.left source.new)) }
+    ensures long { IfErr result (λ e. IsLongRead e (R.left source.old) (R.left source.new)) }
     ensures reads { CountsBy survey_failed_reads (R.read_failures source.old) (R.read_failures source.new) result }
     ensures writes { IfErr result (λ e. survey_failed_writes e ≡ 0) }
 {
@@ -105,6 +106,7 @@ fn line_from<R: Source>(
         (option_map (λ v. v.items) line)) }
     ensures met { OnOk result (R.is_ended source.new ≡ true) }
     ensures all { OnOk result (IsAtEnd (R.left source.new)) }
+    ensures long { IfErr result (λ e. IsLongRead e (R.left source.old) (R.left source.new)) }
     ensures reads { CountsBy survey_failed_reads (R.read_failures source.old) (R.read_failures source.new) result }
     ensures writes { IfErr result (λ e. survey_failed_writes e ≡ 0) }
 {
@@ -146,6 +148,8 @@ pub fn line_of<R: Source>(
         (option_map (λ v. v.items) line)) }
     ensures met { OnOk result (R.is_ended source.new ≡ true) }
     ensures all { OnOk result (IsAtEnd (R.left source.new)) }
+    ensures long { IfErr result (λ e. IsLongRead e (R.left source.old) (R.left source.new)) }
+    ensures long_known { IfErr result (λ e. IfSome (R.left source.old) (λ bytes. IsLong e (length bytes))) }
     ensures reads { CountsBy survey_failed_reads (R.read_failures source.old) (R.read_failures source.new) result }
     ensures writes { IfErr result (λ e. survey_failed_writes e ≡ 0) }
 {

@@ -1,6 +1,6 @@
 //! The survey of a source.
 
-ghost use Rattle.std.specs.Prelude.{◌≡◌, ◌≢◌, ◌<◌, ℕ, List, Option, true, [], IfErr, IfOk, IfSome, OnOk};
+ghost use Rattle.std.specs.Prelude.{◌≡◌, ◌≢◌, ◌<◌, ◌+◌, ℕ, List, Option, true, [], IfErr, IfOk, IfSome, OnOk};
 ghost use Rattle.std.specs.Prelude.{length};
 ghost use Rattle.std.specs.Io.KnownBytes.{IsAtEnd};
 ghost use Rattle.devices.specs.Bytes.{CanGrow, CountsBy};
@@ -8,7 +8,8 @@ ghost use Rattle.ledger.specs.Counts.{IsLedger};
 ghost use Rattle.surveys.specs.Lines.{IsWhole};
 ghost use Rattle.surveys.specs.OneSurvey.{EveryLineHasOneFinding, EverySurveyCountsTheSame};
 ghost use Rattle.surveys.specs.OneSurvey.{EverySurveyTellsTheSame};
-ghost use Rattle.surveys.specs.Surveys.{IsSurvey, IsSurveyOfRead, survey_failed_reads, survey_failed_writes};
+ghost use Rattle.surveys.specs.Surveys.{IsLong, IsLongRead, IsSurvey, IsSurveyOfRead, survey_failed_reads};
+ghost use Rattle.surveys.specs.Surveys.{survey_failed_writes};
 ghost use Rattle.surveys.specs.Tallies.{Ends, Grows, IsTallied, IsTally};
 
 use crate::counting::count_all;
@@ -47,6 +48,7 @@ fn count_part<R: Threads + Sync, W: Sink, G: Gate>(
         → Grows each part.now ledger.old counted (W.written sink.old) ledger.new n (W.written sink.new)) }
     ensures ends { OnOk result
         (Ends each part.now ledger.old counted (W.written sink.old) ledger.new (W.written sink.new)) }
+    ensures long { IfErr result (λ e. IsLong e (counted + length part.now)) }
     ensures reads { IfErr result (λ e. survey_failed_reads e ≡ 0) }
     ensures writes { CountsBy survey_failed_writes (W.write_failures sink.old) (W.write_failures sink.new) result }
     ensures silent { each ≢ true → sink.new ≡ sink.old }
@@ -79,6 +81,7 @@ fn count_whole<R: Threads + Wait + Sync, W: Sink, G: Gate>(
         × IsTally each front ledger.old counted start (W.written sink.old) }
     ensures ok { IfOk result (λ n. IsTallied each block.old.items block.new.items
         ledger.old counted (W.written sink.old) ledger.new n (W.written sink.new)) }
+    ensures long { IfErr result (λ e. IsLong e (counted + length block.old.items)) }
     ensures reads { IfErr result (λ e. survey_failed_reads e ≡ 0) }
     ensures writes { CountsBy survey_failed_writes (W.write_failures sink.old) (W.write_failures sink.new) result }
     ensures silent { each ≢ true → sink.new ≡ sink.old }
@@ -128,6 +131,7 @@ fn count_blocks<T: Threads + Wait + Sync, R: Source, W: Sink, G: Gate>(
         each (W.written sink.old) (W.written sink.new)) }
     ensures met { OnOk result (R.is_ended source.new ≡ true) }
     ensures all { OnOk result (IsAtEnd (R.left source.new)) }
+    ensures long { IfErr result (λ e. IsLongRead e (R.left source.old) (R.left source.new)) }
     ensures reads { CountsBy survey_failed_reads (R.read_failures source.old) (R.read_failures source.new) result }
     ensures writes { CountsBy survey_failed_writes (W.write_failures sink.old) (W.write_failures sink.new) result }
     ensures silent { each ≢ true → sink.new ≡ sink.old }
@@ -168,6 +172,7 @@ fn count_by_workers<T: Threads + Wait + Sync, R: Source, W: Sink, G: Gate>(
         each (W.written sink.old) (W.written sink.new)) }
     ensures met { OnOk result (R.is_ended source.new ≡ true) }
     ensures all { OnOk result (IsAtEnd (R.left source.new)) }
+    ensures long { IfErr result (λ e. IsLongRead e (R.left source.old) (R.left source.new)) }
     ensures reads { CountsBy survey_failed_reads (R.read_failures source.old) (R.read_failures source.new) result }
     ensures writes { CountsBy survey_failed_writes (W.write_failures sink.old) (W.write_failures sink.new) result }
     ensures silent { each ≢ true → sink.new ≡ sink.old }
@@ -192,6 +197,7 @@ fn count_by_workers<T: Threads + Wait + Sync, R: Source, W: Sink, G: Gate>(
             each (W.written sink.entry.now) (W.written sink.exit.now))
             × OnOk result (R.is_ended source.exit.now ≡ true)
             × OnOk result (IsAtEnd (R.left source.exit.now))
+            × IfErr result (λ e. IsLongRead e (R.left source.entry.now) (R.left source.exit.now))
             × CountsBy survey_failed_reads (R.read_failures source.entry.now) (R.read_failures source.exit.now) result
             × CountsBy survey_failed_writes (W.write_failures sink.entry.now) (W.write_failures sink.exit.now) result
             × (each ≢ true → sink.exit.now ≡ sink.entry.now) }
@@ -218,9 +224,10 @@ fn count_by_workers<T: Threads + Wait + Sync, R: Source, W: Sink, G: Gate>(
 /// calling thread is a worker, and reads. Each other worker has a thread of its own where one can be made, for as long
 /// as the survey lasts, or, where each is reported, for a block. The gate hears that a worker begins a recording, that
 /// it is a violation, and that the worker is done, by the numbers of the recordings, from 0. Fails by `ReadFailed`
-/// exactly where a read failed, and by `WriteFailed` where a write did. The memory is that of two blocks, or of the
-/// longest line, whatever the length. One thing is found in a line, however often and by however many workers it is
-/// judged, so any two surveys of the same bytes count and report the same.
+/// exactly where a read failed, by `WriteFailed` where a write did, and by `TooLong` only where 2^64 bytes or more were
+/// read. The memory is that of two blocks, or of the longest line, whatever the length. One thing is found in a line,
+/// however often and by however many workers it is judged, so any two surveys of the same bytes count and report the
+/// same.
 pub fn survey<T: Threads + Wait + Sync, R: Source, W: Sink, G: Gate>(
     rt: &T,
     alloc: Global,
@@ -238,6 +245,8 @@ pub fn survey<T: Threads + Wait + Sync, R: Source, W: Sink, G: Gate>(
         each (W.written sink.old) (W.written sink.new))) }
     ensures met { OnOk result (R.is_ended source.new ≡ true) }
     ensures all { OnOk result (IsAtEnd (R.left source.new)) }
+    ensures long { IfErr result (λ e. IsLongRead e (R.left source.old) (R.left source.new)) }
+    ensures long_known { IfErr result (λ e. IfSome (R.left source.old) (λ bytes. IsLong e (length bytes))) }
     ensures reads { CountsBy survey_failed_reads (R.read_failures source.old) (R.read_failures source.new) result }
     ensures writes { CountsBy survey_failed_writes (W.write_failures sink.old) (W.write_failures sink.new) result }
     ensures silent { each ≢ true → sink.new ≡ sink.old }

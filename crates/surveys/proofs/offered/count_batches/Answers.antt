@@ -1,11 +1,14 @@
-use Rattle.std.proofs.Common.{ℕ, List, false, arith, ap, drop, length}
+use Rattle.std.proofs.Common.{◌+◌, ◌-◌, ℕ, List, false, arith, ap, drop, length, take}
 use Rattle.std.proofs.lemmas.List.{length-drop, take_rest}
+use Rattle.surveys.specs.Surveys.{IsLong}
 use Rattle.surveys.proofs.Batches.{none_tallied, tallied_from, tally_on}
+use Rattle.surveys.proofs.Long.{from_err, long_more}
 use Rattle.surveys.proofs.offered.count_batches.Goals as goal
 
 pub batches-init : goal.batches-init
 batches-init g c = record {
   within = omega arith;
+  size = omega arith;
   tallied = λ w. none_tallied false c.args.bytes.now c.args.ledger.now c.args.counted w;
 }
 
@@ -26,6 +29,7 @@ batches-preserved g c =
         ap (λ (b : List ℕ). length b) rest,
         length-drop c.batches.from bytes,
       );
+      size = omega (arith, c.batches.invariant.size, c.in_ok-more.ensures.size);
       tallied = λ w.
           tallied_from bytes _ c.batches.from c.in_ok-more.length c.args.ledger.now c.batches.ledger
           c.count_batch.new.ledger c.args.counted c.batches.total c.in_ok-more.more w c.batches.invariant.within rest
@@ -38,3 +42,17 @@ returns-then-length-eq0-clause-ok g c = λ w.
     tallied_from bytes _ c.batches.from c.in_ok-more.length c.args.ledger.now c.batches.ledger c.count_batch.new.ledger
     c.args.counted c.batches.total c.in_ok-more.more w c.batches.invariant.within (take_rest bytes c.batches.from)
     (c.batches.invariant.tallied w) (c.in_ok-more.ensures.ok w)
+
+pub returns-in_err-more-clause-long : goal.returns-in_err-more-clause-long
+returns-in_err-more-clause-long g c =
+    let bytes : List ℕ = c.args.bytes.now in
+    let most : ℕ = c.args.counted + length bytes in
+    let rest : List ℕ = take (length bytes - c.batches.from) (drop c.batches.from bytes) in
+    from_err _ c.in_err-more.field-0.0 (λ e. IsLong e most)
+    (long_more c.in_err-more.field-0.0 (c.batches.total + length rest) most (omega (
+      arith,
+      c.batches.invariant.size,
+      c.batches.invariant.within,
+      length-drop c.batches.from bytes,
+      ap (λ (b : List ℕ). length b) (take_rest bytes c.batches.from),
+    )) c.in_err-more.ensures.long) c.from_residual.ensures.1

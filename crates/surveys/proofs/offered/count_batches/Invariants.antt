@@ -1,10 +1,11 @@
-use Rattle.std.proofs.Common.{◌≤◌, ◌-◌, List, ℕ, Option, false, drop, length}
+use Rattle.std.proofs.Common.{◌≡◌, ◌≤◌, ◌+◌, ◌-◌, List, ℕ, Option, false, drop, length}
 use Rattle.surveys.specs.Tallies.{IsTallied}
 use Rattle.surveys.proofs.offered.count_batches.Given as goal
 
 abbrev pub invariant-batches : goal.invariant-batches
 invariant-batches g l = record {
   within : l.from ≤ length l.bytes;
+  size : l.total ≡ l.counted + l.from;
   tallied :
       (w : Option (List ℕ)) → IsTallied false l.bytes (drop l.from l.bytes) l.fn.ledger l.counted w l.ledger l.total w;
 }

@@ -1,10 +1,10 @@
 use Rattle.std.proofs.Common.{◌≡◌, ◌-◌, ◌^◌, [], length}
-use Rattle.surveys.specs.Shown.{IsReadOn}
+use Rattle.surveys.proofs.Long.{IsReadOf}
 use Rattle.surveys.proofs.showing.read_rest.Given as goal
 
 abbrev pub invariant-filled : goal.invariant-filled
 invariant-filled g l = record {
-  read : IsReadOn (g.R.Source.left l.fn.source) (g.R.Source.left l.source);
+  read : IsReadOf (g.R.Source.left l.fn.source) (g.R.Source.left l.source) l.counted;
   reads : g.R.Source.read_failures l.source ≡ g.R.Source.read_failures l.fn.source;
   empty : l.block.items ≡ [];
   size : length l.chunk ≡ length l.fn.chunk;

@@ -1,7 +1,9 @@
-use Rattle.std.proofs.Common.{◌∙◌, arith, List, ℕ, subst, refl, sym}
+use Rattle.std.proofs.Common.{◌∙◌, ◌+◌, arith, length, List, ℕ, subst, refl, sym}
 use Rattle.surveys.specs.Tallies.{Ends, IsUnderWay}
 use Rattle.surveys.proofs.Blocks.{begun, gone_on, same_size}
+use Rattle.surveys.specs.Surveys.{IsLong, IsLongRead}
 use Rattle.surveys.proofs.Batches.{all_ended}
+use Rattle.surveys.proofs.Long.{from_err, long_under, long_way}
 use Rattle.surveys.proofs.surveying.count_blocks.Goals as goal
 
 pub filled-init : goal.filled-init
@@ -55,3 +57,34 @@ returns-clause-whole g c =
     all_ended c.args.each _ _ _ was is c.count_whole-2.new.ledger c.count_part.new.ledger c.in_ok-counted-2.counted rest
     way (subst (λ (bytes : List ℕ). Ends c.args.each bytes c.count_whole-2.new.ledger c.in_ok-counted-2.counted was
     c.count_part.new.ledger is) c.deref.ensures.value c.in_ok-count_part.ensures.ends)
+
+pub returns-in_err-counted-clause-long : goal.returns-in_err-counted-clause-long
+returns-in_err-counted-clause-long g c =
+    let start = g.R.Source.left c.args.source.now in
+    let end = g.R.Source.left c.fill.new.source in
+    from_err _ c.in_err-counted.field-0.0 (λ e. IsLongRead e start end)
+    (long_way c.args.each start (g.R.Source.left c.filled.source) end _ _ c.filled.ledger c.filled.counted
+    c.filled.block.items c.fill.new.block.items _ c.filled.invariant.way c.in_ok-fill.ensures.gathered
+    c.in_err-counted.ensures.long) c.from_residual-in_err-counted.ensures.1
+
+pub returns-in_err-counted-2-clause-long : goal.returns-in_err-counted-2-clause-long
+returns-in_err-counted-2-clause-long g c =
+    let start = g.R.Source.left c.args.source.now in
+    let end = g.R.Source.left c.fill.new.source in
+    from_err _ c.in_err-counted-2.field-0.0 (λ e. IsLongRead e start end)
+    (long_way c.args.each start (g.R.Source.left c.filled.source) end _ _ c.filled.ledger c.filled.counted
+    c.filled.block.items c.fill.new.block.items _ c.filled.invariant.way c.in_ok-fill.ensures.gathered
+    c.in_err-counted-2.ensures.long) c.from_residual-in_err-counted-2.ensures.1
+
+pub returns-in_err-count_part-clause-long : goal.returns-in_err-count_part-clause-long
+returns-in_err-count_part-clause-long g c =
+    let start = g.R.Source.left c.args.source.now in
+    let end = g.R.Source.left c.fill.new.source in
+    let rest : List ℕ = c.count_whole-2.new.block.items in
+    let way = gone_on c.args.each start (g.R.Source.left c.filled.source) end _ _ c.filled.ledger c.filled.counted
+    c.filled.block.items c.fill.new.block.items c.filled.invariant.way c.in_ok-fill.ensures.gathered
+    c.count_whole-2.new.ledger c.in_ok-counted-2.counted rest _ c.in_ok-counted-2.ensures.ok in
+    from_err _ c.in_err-count_part.field-0.0 (λ e. IsLongRead e start end)
+    (long_under c.args.each start end _ _ c.count_whole-2.new.ledger c.in_ok-counted-2.counted rest _ way
+    (subst (λ (bytes : List ℕ). IsLong c.in_err-count_part.field-0.0 (c.in_ok-counted-2.counted + length bytes))
+    c.deref.ensures.value c.in_err-count_part.ensures.long)) c.from_residual-in_err-count_part.ensures.1
