@@ -72,8 +72,8 @@ impl SharedMachine {
         }
     }
 
-    /// What a worker's thread does, up to its end; a core's first turn, in which it takes a step, is between the
-    /// calls of the gate.
+    /// What a worker's thread does, up to its end or for 2^64 - 1 turns. A core's first turn, in which it takes a step,
+    /// is between the calls of the gate.
     fn attend<R: Wait, G: Gate>(&self, rt: &R, gate: &G, worker: Worker) {
         if let Worker::Core(core) = worker {
             gate.begin(core as usize, core as usize);
@@ -83,7 +83,7 @@ impl SharedMachine {
                 return;
             }
         }
-        for _ in rt.forever() {
+        for _ in 0..u64::MAX {
             if !self.turn(rt, worker) {
                 break;
             }
