@@ -10,7 +10,8 @@ use Rattle.command_line.proofs.Taken.{command_is_whole}
 use Rattle.clap.specs.declared.error.Error.{Error}
 use Rattle.clap.specs.declared.error.kind.ErrorKind.TheVariants as kinds
 use Rattle.command_line.specs.declared.options.OptionStop.{OptionStop}
-use Rattle.command_line.specs.declared.options.OptionStop.TheVariants.{Clap, RefusalMeanings, StandardInputTwice, Refused}
+use Rattle.command_line.specs.declared.options.OptionStop.TheVariants.{Clap, RefusalMeaning, RefusalMeanings, StandardInputTwice}
+use Rattle.command_line.specs.declared.options.OptionStop.TheVariants.{Misfit, Refused}
 use Rattle.command_line.specs.declared.options.OptionStop.TheVariants.{OutOfMemory}
 use Rattle.command_line.specs.Commands.{program_app}
 use Rattle.command_line.specs.Options.{IsOptionStop, IsSaid, AreTaken}
@@ -39,7 +40,9 @@ said_fault e (Clap x) words passes found said = (
       (among e words said.1 found),
 )
 said_fault e RefusalMeanings words passes found said = absurd said
+said_fault e (RefusalMeaning line) words passes found said = absurd said
 said_fault e StandardInputTwice words passes found said = absurd said
+said_fault e (Misfit misfit) words passes found said = absurd said
 said_fault e (Refused refusal) words passes found said = absurd said
 said_fault e OutOfMemory words passes found said = tt
 

@@ -17,28 +17,33 @@ abbrev pub commands : List (Text × List (Text × Takes))
 commands = (
   codes "run",
   (codes "PROGRAM", Place) ∷ (codes "steps", Word) ∷ (codes "seed", Number)
-      ∷ (codes "attempts", Number) ∷ (codes "buffer", Number) ∷ (codes "fault", Word) ∷ [],
+      ∷ (codes "attempts", Number) ∷ (codes "buffer", Number) ∷ (codes "fault", Word) ∷ (codes "words", Nothing) ∷ [],
 )
-    ∷ (codes "judge", (codes "FILE", Place) ∷ (codes "workers", Number) ∷ [])
+    ∷ (codes "judge", (codes "FILE", Place) ∷ (codes "workers", Number) ∷ (codes "words", Nothing) ∷ [])
     ∷ (
       codes "trials",
       (codes "cores", Size) ∷ (codes "ops", Size) ∷ (codes "addresses", Size)
           ∷ (codes "seed", Number) ∷ (codes "trials", Number) ∷ (codes "attempts", Number)
           ∷ (codes "buffer", Number) ∷ (codes "fault", Word) ∷ (codes "workers", Number)
-          ∷ (codes "show", Number) ∷ (codes "reduce", Nothing) ∷ (codes "quiet", Nothing) ∷ [],
+          ∷ (codes "show", Number) ∷ (codes "reduce", Nothing) ∷ (codes "quiet", Nothing) ∷ (codes "words", Nothing) ∷ [],
     )
-    ∷ (codes "live", (codes "PROGRAM", Place) ∷ (codes "buffer", Number) ∷ (codes "limit", Number) ∷ [])
-    ∷ (codes "replay", (codes "FILE", Place) ∷ [])
-    ∷ (codes "explain", (codes "FILE", Place) ∷ (codes "program", Word) ∷ [])
-    ∷ (codes "draw", (codes "FILE", Place) ∷ (codes "program", Word) ∷ (codes "all", Nothing) ∷ [])
-    ∷ (codes "reduce", (codes "FILE", Place) ∷ (codes "program", Word) ∷ [])
-    ∷ (codes "verify", (codes "RECORDING", Place) ∷ (codes "VERDICT", Place) ∷ (codes "workers", Number) ∷ [])
+    ∷ (codes "live", (codes "PROGRAM", Place) ∷ (codes "buffer", Number) ∷ (codes "limit", Number) ∷ (codes "words", Nothing) ∷ [])
+    ∷ (codes "replay", (codes "FILE", Place) ∷ (codes "words", Nothing) ∷ [])
+    ∷ (codes "explain", (codes "FILE", Place) ∷ (codes "program", Word) ∷ (codes "words", Nothing) ∷ [])
+    ∷ (codes "draw", (codes "FILE", Place) ∷ (codes "program", Word) ∷ (codes "all", Nothing) ∷ (codes "words", Nothing) ∷ [])
+    ∷ (codes "reduce", (codes "FILE", Place) ∷ (codes "program", Word) ∷ (codes "words", Nothing) ∷ [])
+    ∷ (codes "verify", (codes "RECORDING", Place) ∷ (codes "VERDICT", Place) ∷ (codes "workers", Number) ∷ (codes "words", Nothing) ∷ [])
     ∷ (
       codes "survey",
       (codes "FILE", Place) ∷ (codes "workers", Number) ∷ (codes "each", Nothing) ∷ (codes "show", Number)
-          ∷ (codes "reduce", Nothing) ∷ (codes "quiet", Nothing) ∷ [],
+          ∷ (codes "reduce", Nothing) ∷ (codes "quiet", Nothing) ∷ (codes "words", Nothing) ∷ [],
     )
-    ∷ (codes "merge", (codes "FILE", Places) ∷ [])
+    ∷ (codes "merge", (codes "FILE", Places) ∷ (codes "words", Nothing) ∷ [])
+    ∷ (
+      codes "outcomes",
+      (codes "PROGRAM", Place) ∷ (codes "states", Number) ∷ (codes "observed", Word) ∷ (codes "unseen", Nothing)
+          ∷ (codes "exists", Word) ∷ (codes "never", Word) ∷ (codes "words", Nothing) ∷ [],
+    )
     ∷ []
 
 -- a row of the code's table
@@ -93,6 +98,12 @@ program_app = with_commands commands
 abbrev pub asks_of_refusals : List Text → Bool
 asks_of_refusals (first ∷ second ∷ []) = bytes_eq first (codes "help") && bytes_eq second (codes "refusals")
 asks_of_refusals words = false
+
+-- the words ask what one refusal means, by its name
+abbrev pub asks_of_one : List Text → Bool
+asks_of_one (first ∷ name ∷ []) = bytes_eq first (codes "help")
+asks_of_one (first ∷ second ∷ name ∷ []) = bytes_eq first (codes "help") && bytes_eq second (codes "refusals")
+asks_of_one words = false
 
 -- clap finds no fault in the words
 abbrev pub HaveNoMistake : List Text → Type 0

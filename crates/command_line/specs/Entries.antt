@@ -1,6 +1,7 @@
 -- What the entries of a command ask for: each option is its entry, or else its default.
 use Rattle.std.specs.Prelude.{◌≡◌, ◌≢◌, ◌&&◌, ◌||◌, ℕ, Bool, List, Option, Some, None, IfSome, codes}
-use Rattle.std.specs.Prelude.{[], ◌∷◌, ⊤, false, find, count_by, nat_lt, option_map, true, unwrap_or}
+use Rattle.std.specs.Prelude.{◌+◌, ◌==◌, [], ◌∷◌, ⊤, false, find, count_by, if◌then◌else◌, is_some, nat_lt, not, option_map, true}
+use Rattle.std.specs.Prelude.{unwrap_or}
 use Rattle.std.specs.Option.{option_map_or}
 use Rattle.std.specs.List.{list_any}
 use Rattle.std.specs.Str.{bytes_eq}
@@ -11,6 +12,9 @@ use Rattle.clap.specs.Values.{bool_text}
 use Rattle.machine.specs.declared.fault.Fault.{Fault}
 use Rattle.machine.specs.declared.fault.Fault.TheVariants as fault
 use Rattle.command_line.specs.declared.options.Limits.{Limits}
+use Rattle.command_line.specs.declared.options.Misfit.{Misfit}
+use Rattle.command_line.specs.declared.options.Misfit.TheVariants.{EachWithShow, ReduceWithoutShow}
+use Rattle.command_line.specs.declared.options.Misfit.TheVariants.{TwoQuestions, UnseenWithoutObserved}
 use Rattle.command_line.specs.declared.options.TheConstants.{DEFAULT_FAULT}
 use Rattle.command_line.specs.declared.table.Takes.{Takes}
 use Rattle.command_line.specs.declared.table.Takes.TheVariants as takes
@@ -82,6 +86,27 @@ names_standard_input_twice rows =
     || (is_standard_input (codes "PROGRAM") rows && is_standard_input (codes "steps") rows)
     || (is_standard_input (codes "FILE") rows && is_standard_input (codes "program") rows)
     || (is_standard_input (codes "RECORDING") rows && is_standard_input (codes "VERDICT") rows)
+    || (is_standard_input (codes "PROGRAM") rows && is_standard_input (codes "observed") rows)
+
+-- whether there is an entry, as a number
+abbrev pub given : Text → List Row → ℕ
+given id rows = option_map_or (λ text. 1) (first_of id rows) 0
+
+-- how many questions are asked of outcomes
+abbrev pub questions : List Row → ℕ
+questions rows = given (codes "observed") rows + given (codes "exists") rows + given (codes "never") rows
+
+-- the options of outcomes that don't go together: two that ask different things, or --unseen without --observed
+abbrev pub question_misfit : List Row → Option Misfit
+question_misfit rows = if nat_lt 1 (questions rows) then Some TwoQuestions
+    else (if is_given (codes "unseen") rows && (given (codes "observed") rows == 0) then Some UnseenWithoutObserved
+    else None)
+
+-- the options that don't go together: --each with --show, or --reduce without it, or those of outcomes
+abbrev pub misfit_of : List Row → Option Misfit
+misfit_of rows = if is_some (show_of rows) && is_given (codes "each") rows then Some EachWithShow
+    else (if not (is_some (show_of rows)) && is_given (codes "reduce") rows then Some ReduceWithoutShow
+    else question_misfit rows)
 
 -- the entry, where there is one, is a number of 64 bits
 abbrev pub HasNumber : Text → List Row → Type 0

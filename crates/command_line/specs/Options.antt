@@ -1,5 +1,5 @@
 -- The options that the words ask for.
-use Rattle.std.specs.Prelude.{◌≡◌, ◌≢◌, ◌≤◌, ◌<◌, ℕ, List, Option, Some, None, IfSome, Ok, false, ⊤, codes, true}
+use Rattle.std.specs.Prelude.{◌≡◌, ◌≢◌, ◌≤◌, ◌<◌, ℕ, Bool, List, Option, Some, None, IfSome, Ok, false, ⊤, codes, true}
 use Rattle.std.specs.Prelude.{IsSomeAnd, is_some, length, map, option_map, string_bytes}
 use Rattle.clap.specs.Takes.{is_given}
 use Rattle.clap.specs.Words.{IsAmong, Row, Text, fault_of, first_of, kind_of, takes}
@@ -8,7 +8,10 @@ use Rattle.clap.specs.declared.error.kind.ErrorKind.TheVariants as kinds
 use Rattle.command_line.specs.declared.options.Limits.{Limits}
 use Rattle.command_line.specs.declared.options.Options.{Options}
 use Rattle.command_line.specs.declared.options.Options.TheVariants.{Run, Judge, Trials, Live, Replay, Explain, Draw, Reduce}
-use Rattle.command_line.specs.declared.options.Options.TheVariants.{Verify, Survey, Merge}
+use Rattle.command_line.specs.declared.options.Options.TheVariants.{Verify, Survey, Merge, Outcomes}
+use Rattle.command_line.specs.declared.options.OutcomesOptions.{OutcomesOptions}
+use Rattle.command_line.specs.declared.options.Question.{Question}
+use Rattle.command_line.specs.declared.options.Question.TheVariants.{All, Observed, Exists, Never}
 use Rattle.command_line.specs.declared.options.VerifyOptions.{VerifyOptions}
 use Rattle.command_line.specs.declared.options.SurveyOptions.{SurveyOptions}
 use Rattle.command_line.specs.declared.options.MergeOptions.{MergeOptions}
@@ -20,13 +23,15 @@ use Rattle.command_line.specs.declared.options.FileOptions.{FileOptions}
 use Rattle.command_line.specs.declared.options.DrawOptions.{DrawOptions}
 use Rattle.command_line.specs.declared.options.ExplainOptions.{ExplainOptions}
 use Rattle.command_line.specs.declared.options.OptionStop.{OptionStop}
-use Rattle.command_line.specs.declared.options.OptionStop.TheVariants.{Clap, RefusalMeanings, StandardInputTwice, Refused}
+use Rattle.command_line.specs.declared.options.OptionStop.TheVariants.{Clap, RefusalMeaning, RefusalMeanings}
+use Rattle.command_line.specs.declared.options.OptionStop.TheVariants.{StandardInputTwice, Misfit, Refused}
 use Rattle.command_line.specs.declared.options.OptionStop.TheVariants.{OutOfMemory}
 use Rattle.command_line.specs.declared.options.TheConstants.{ATTEMPTS, BUFFER, DEFAULT_SEED, LIMIT, TRIALS}
-use Rattle.command_line.specs.declared.options.TheConstants.{WORKERS}
+use Rattle.command_line.specs.declared.options.TheConstants.{STATES, WORKERS}
 use Rattle.command_line.specs.declared.values.Values.{Values}
-use Rattle.command_line.specs.Commands.{HaveNoMistake, asks_of_refusals, command_of, program_app}
-use Rattle.command_line.specs.Entries.{HasEntries, machine_fault_of, names_standard_input_twice, number_of, number_or, show_of}
+use Rattle.command_line.specs.Commands.{HaveNoMistake, asks_of_one, asks_of_refusals, command_of, program_app}
+use Rattle.command_line.specs.Entries.{HasEntries, machine_fault_of, misfit_of, names_standard_input_twice}
+use Rattle.command_line.specs.Entries.{number_of, number_or, show_of}
 use Rattle.clap.specs.Words.{all_of, one_of, subcommand_rows_of}
 use Rattle.clap.specs.declared.parser.matches.ArgMatches.{ArgMatches}
 use Rattle.command_line.specs.Refusals.{refusal_of, shape_asked}
@@ -61,6 +66,8 @@ pub record AreValuesAsked (v : Values) (rows : List Row) : Type 0 where
   pub quiet : v.quiet ≡ is_given (codes "quiet") rows
   pub all : v.all ≡ is_given (codes "all") rows
   pub each : v.each ≡ is_given (codes "each") rows
+  pub states : IsNumber (codes "states") STATES rows v.states
+  pub unseen : v.unseen ≡ is_given (codes "unseen") rows
 
 -- each option of run is its entry, or else its default
 pub record AreRunOptions (o : RunOptions) (rows : List Row) : Type 0 where
@@ -130,6 +137,21 @@ pub record AreMergeOptions (o : MergeOptions) (rows : List Row) : Type 0 where
   pub files : all_of (codes "FILE") rows ≡ Some (map string_bytes o.files.items)
   pub some : 0 < length o.files.items
 
+-- the question of the entries, of which one at most asks
+abbrev pub IsQuestion : Question → Bool → List Row → Type 0
+IsQuestion All unseen rows = (first_of (codes "observed") rows ≡ None) × (first_of (codes "exists") rows ≡ None)
+    × (first_of (codes "never") rows ≡ None)
+IsQuestion (Observed file whole) unseen rows =
+    (first_of (codes "observed") rows ≡ Some (string_bytes file)) × (whole ≡ unseen)
+IsQuestion (Exists items) unseen rows = first_of (codes "exists") rows ≡ Some (string_bytes items)
+IsQuestion (Never items) unseen rows = first_of (codes "never") rows ≡ Some (string_bytes items)
+
+-- each option of outcomes is its entry, or else its default
+pub record AreOutcomesOptions (o : OutcomesOptions) (rows : List Row) : Type 0 where
+  pub program : first_of (codes "PROGRAM") rows ≡ Some (string_bytes o.program)
+  pub question : IsQuestion o.question (is_given (codes "unseen") rows) rows
+  pub states : IsNumber (codes "states") STATES rows o.states
+
 -- the options are those of the command with this name
 abbrev pub AreOptionsOf : Options → Text → List Row → Type 0
 AreOptionsOf (Run o) name rows = (name ≡ codes "run") × AreRunOptions o rows
@@ -143,18 +165,22 @@ AreOptionsOf (Reduce o) name rows = (name ≡ codes "reduce") × AreExplainOptio
 AreOptionsOf (Verify o) name rows = (name ≡ codes "verify") × AreVerifyOptions o rows
 AreOptionsOf (Survey o) name rows = (name ≡ codes "survey") × AreSurveyOptions o rows
 AreOptionsOf (Merge o) name rows = (name ≡ codes "merge") × AreMergeOptions o rows
+AreOptionsOf (Outcomes o) name rows = (name ≡ codes "outcomes") × AreOutcomesOptions o rows
 
--- the options are those of the command that was read, whose inputs are not both standard input; no entry is refused
+-- the options are those of the command that was read, whose inputs are not both standard input; they go together, and
+-- no entry is refused
 abbrev pub AreOptions : Options → Option (Text × List Row) → Type 0
 AreOptions o None = ⊥
-AreOptions o (Some command) = (names_standard_input_twice command.1 ≡ false) × (refusal_of command.1 ≡ None)
-    × AreOptionsOf o command.0 command.1
+AreOptions o (Some command) = (names_standard_input_twice command.1 ≡ false) × (misfit_of command.1 ≡ None)
+    × (refusal_of command.1 ≡ None) × AreOptionsOf o command.0 command.1
 
--- why the entries of the command that was read give no options: standard input is named twice, or else their first
--- refusal
+-- why the entries of the command that was read give no options: standard input is named twice, or else some don't go
+-- together, or else their first refusal
 abbrev pub IsEntryStop : OptionStop → List Row → Type 0
 IsEntryStop StandardInputTwice rows = names_standard_input_twice rows ≡ true
-IsEntryStop (Refused refusal) rows = (names_standard_input_twice rows ≡ false) × (refusal_of rows ≡ Some refusal)
+IsEntryStop (Misfit misfit) rows = (names_standard_input_twice rows ≡ false) × (misfit_of rows ≡ Some misfit)
+IsEntryStop (Refused refusal) rows = (names_standard_input_twice rows ≡ false) × (misfit_of rows ≡ None)
+    × (refusal_of rows ≡ Some refusal)
 IsEntryStop other rows = ⊥
 
 -- why the command that was read gives no options: its entries, or that memory ran out
@@ -167,7 +193,9 @@ IsMatchesStop fault (Some command) = IsEntryStop fault command.1
 -- entries give none
 abbrev pub IsOptionStop : OptionStop → List Text → Type 0
 IsOptionStop RefusalMeanings words = asks_of_refusals words ≡ true
+IsOptionStop (RefusalMeaning line) words = asks_of_one words ≡ true
 IsOptionStop StandardInputTwice words = HaveNoMistake words × IsMatchesStop StandardInputTwice (command_of words)
+IsOptionStop (Misfit misfit) words = HaveNoMistake words × IsMatchesStop (Misfit misfit) (command_of words)
 IsOptionStop (Clap error) words = (takes program_app words ≡ false)
     × IsAmong (kind_of error) (fault_of program_app words)
 IsOptionStop (Refused refusal) words = HaveNoMistake words × IsMatchesStop (Refused refusal) (command_of words)

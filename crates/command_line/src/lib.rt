@@ -3,6 +3,7 @@
 
 mod build;
 mod entries;
+mod meanings;
 mod named;
 mod options;
 mod pages;
@@ -10,7 +11,9 @@ mod table;
 mod values;
 pub mod words;
 
+pub use meanings::{REFUSAL_MEANINGS, meaning_named};
 pub use options::{
-    DrawOptions, ExplainOptions, FileOptions, JudgeOptions, LiveOptions, MergeOptions,
-    OptionRefusal, OptionStop, Options, RunOptions, SurveyOptions, TrialsOptions, VerifyOptions,
+    DrawOptions, ExplainOptions, FileOptions, JudgeOptions, LiveOptions, MergeOptions, Misfit,
+    OptionRefusal, OptionStop, Options, OutcomesOptions, Question, RunOptions, SurveyOptions,
+    TrialsOptions, VerifyOptions,
 };

@@ -3,13 +3,13 @@ ghost use Rattle.std.specs.Prelude.{◌≡◌, ◌≢◌, IfOk, List, None, Some
 ghost use Rattle.clap.specs.Words.{Row, first_of, found_of, rows_of};
 ghost use Rattle.command_line.specs.Entries.{HasEntries, HasText};
 ghost use Rattle.command_line.specs.Options.{AreExplainOptions, AreMergeOptions, AreOptionsOf, AreRunOptions};
-ghost use Rattle.command_line.specs.Options.{AreSurveyOptions, AreValuesAsked};
+ghost use Rattle.command_line.specs.Options.{AreOutcomesOptions, AreSurveyOptions, AreValuesAsked, IsQuestion};
 ghost use Rattle.command_line.specs.Refusals.{refusal_of};
 
 use crate::entries::{maybe_text, maybe_texts};
 use crate::options::{
     DrawOptions, ExplainOptions, FileOptions, JudgeOptions, LiveOptions, MergeOptions, Options,
-    RunOptions, SurveyOptions, TrialsOptions, VerifyOptions,
+    OutcomesOptions, Question, RunOptions, SurveyOptions, TrialsOptions, VerifyOptions,
 };
 use crate::values::Values;
 use campaign::Campaign;
@@ -138,6 +138,41 @@ fn merge_options(alloc: Global, matches: &ArgMatches<'_>) -> Result<MergeOptions
     Ok(MergeOptions { files })
 }
 
+/// The question that entries ask of outcomes.
+fn question(alloc: Global, matches: &ArgMatches<'_>, unseen: bool) -> Result<Question, AllocError>
+    ensures { IfOk result (λ q. IsQuestion q unseen (rows_of (found_of matches.now))) }
+{
+    if let Some(file) = maybe_given(alloc, matches, "observed")? {
+        return Ok(Question::Observed { file, unseen });
+    }
+    if let Some(items) = maybe_given(alloc, matches, "exists")? {
+        return Ok(Question::Exists(items));
+    }
+    if let Some(items) = maybe_given(alloc, matches, "never")? {
+        return Ok(Question::Never(items));
+    }
+    Ok(Question::All)
+}
+
+/// The options of `outcomes`.
+fn outcomes_options(
+    alloc: Global,
+    matches: &ArgMatches<'_>,
+    values: &Values,
+) -> Result<OutcomesOptions, AllocError>
+    requires program { HasText (codes "PROGRAM") (rows_of (found_of matches.now)) }
+    requires values { AreValuesAsked values.now (rows_of (found_of matches.now)) }
+    ensures { IfOk result (λ o. AreOutcomesOptions o (rows_of (found_of matches.now))) }
+{
+    let program = given(alloc, matches, "PROGRAM")?;
+    let question = question(alloc, matches, values.unseen)?;
+    Ok(OutcomesOptions {
+        program,
+        question,
+        states: values.states,
+    })
+}
+
 /// The options of the command with this name.
 pub fn named_options(
     alloc: Global,
@@ -184,6 +219,7 @@ pub fn named_options(
         })),
         "survey" => Ok(Options::Survey(survey_options(alloc, matches, values)?)),
         "merge" => Ok(Options::Merge(merge_options(alloc, matches)?)),
+        "outcomes" => Ok(Options::Outcomes(outcomes_options(alloc, matches, values)?)),
         _ => unreachable!(),
     }
 }

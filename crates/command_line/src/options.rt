@@ -6,6 +6,8 @@ use common::{MAX_CAPACITY, MAX_STEPS, MAX_TRIALS, MAX_WORKERS};
 use machine::Fault;
 use program::ShapeError;
 use std::alloc::AllocError;
+use std::fmt;
+use std::fmt::{Display, Formatter, Write};
 
 /// What an option's number may be, which is 1 at least.
 #[derive(Clone, Copy, Drop)]
@@ -53,6 +55,13 @@ pub const WORKERS: Limits = Limits {
     refusal: OptionRefusal::Workers,
 };
 
+/// How many states of a program are looked at.
+pub const STATES: Limits = Limits {
+    most: 4_294_967_295,
+    default: 1_000_000,
+    refusal: OptionRefusal::States,
+};
+
 /// The seed where no option says it.
 pub const DEFAULT_SEED: u64 = 0;
 
@@ -84,6 +93,8 @@ pub enum Options {
     Survey(SurveyOptions),
     /// `merge`.
     Merge(MergeOptions),
+    /// `outcomes`.
+    Outcomes(OutcomesOptions),
 }
 
 /// What `run` is asked: the names of the program and of the script, and the machine and the steps of
@@ -201,6 +212,35 @@ pub struct LiveOptions {
     pub limit: usize,
 }
 
+/// What `outcomes` is asked: the name of the program, what is asked of its outcomes, and how many states are looked at.
+#[derive(Debug, Drop)]
+pub struct OutcomesOptions {
+    /// The name of the program.
+    pub program: String,
+    /// What is asked of its outcomes.
+    pub question: Question,
+    /// How many states are looked at at most, 1 to 2^32 - 1.
+    pub states: usize,
+}
+
+/// What is asked of the outcomes of a program.
+#[derive(Debug, Drop)]
+pub enum Question {
+    /// All of them.
+    All,
+    /// Whether they have what a log says.
+    Observed {
+        /// The name of the log.
+        file: String,
+        /// Whether the outcomes that no line shows are printed.
+        unseen: bool,
+    },
+    /// Whether one has these items.
+    Exists(String),
+    /// Whether none has these items.
+    Never(String),
+}
+
 /// Why the entries of words that `clap` takes are refused. Where several apply, the first in this order
 /// is answered.
 #[derive(Clone, Copy, Debug, Drop, PartialEq, Eq)]
@@ -214,17 +254,62 @@ pub enum OptionRefusal {
     Fault,
     /// K10: the trial to show is not below the number of trials.
     Show,
+    /// K12: the number of states is not from 1 to 2^32 - 1.
+    States,
+}
+
+/// Options that don't go together.
+#[derive(Clone, Copy, Debug, Drop, PartialEq, Eq)]
+pub enum Misfit {
+    /// `--each` reports all recordings, and `--show` one of them instead.
+    EachWithShow,
+    /// `--reduce` cuts down what `--show` shows.
+    ReduceWithoutShow,
+    /// Two of `--observed`, `--exists` and `--never` ask different things.
+    TwoQuestions,
+    /// `--unseen` belongs to `--observed`.
+    UnseenWithoutObserved,
+}
+
+impl Display for Misfit {
+    fn fmt<W: Write>(&self, f: &mut Formatter<W>) -> fmt::Result {
+        match self {
+            Misfit::EachWithShow => {
+                f.write_str("error: the argument '--show <K>' cannot be used with '--each'")?;
+            }
+            Misfit::ReduceWithoutShow => {
+                f.write_str(
+                    "error: the following required arguments were not provided:\n  --show <K>",
+                )?;
+            }
+            Misfit::TwoQuestions => {
+                f.write_str(
+                    "error: only one of '--observed', '--exists' and '--never' can be used",
+                )?;
+            }
+            Misfit::UnseenWithoutObserved => {
+                f.write_str(
+                    "error: the following required arguments were not provided:\n  --observed <FILE>",
+                )?;
+            }
+        }
+        f.write_str("\n\nFor more information, try '--help'.")
+    }
 }
 
 /// Why the words gave no options.
 #[derive(Debug, Drop)]
 pub enum OptionStop {
-    /// What `clap` says: a fault of the command line, or the help that was asked for.
+    /// What `clap` says: an error of the command line, or the help that was asked for.
     Clap(clap::Error),
     /// The words ask what refusals mean.
     RefusalMeanings,
+    /// The words ask what one refusal means, which this line says.
+    RefusalMeaning(&'static str),
     /// `clap` takes the words, and `-` stands for two inputs.
     StandardInputTwice,
+    /// `clap` takes the words, and these options don't go together.
+    Misfit(Misfit),
     /// `clap` takes the words, and this is the first refusal of their entries.
     Refused(OptionRefusal),
     /// There is no memory.

@@ -17,7 +17,7 @@ pub const PROGRAM: Page = Page {
     more: "",
     statuses: "Exit status:
   0  TSO allows the recording; of `trials`, every recording
-  1  a fault of the command line, a file, memory or a thread, as standard error says
+  1  an error of the command line, a file, memory or a thread, as standard error says
   2  the recording is a violation of TSO; of `trials`, at least one is
   3  a text, a number or a name was refused, as the line `refused: ..` says, and
      `tsotest help refusals` what it means
@@ -31,7 +31,8 @@ Examples:
   tsotest replay recording.json
   tsotest run store_buffering.litmus
   tsotest run store_buffering.litmus --steps store_buffering.steps
-  tsotest trials --cores 2 --ops 8 --addresses 2 --trials 1000",
+  tsotest trials --cores 2 --ops 8 --addresses 2 --trials 1000
+  tsotest outcomes store_buffering.litmus",
 };
 
 const RUN: Page = Page {
@@ -63,7 +64,7 @@ with `open-fence` fences and with `early-rmw` read-modify-writes don't wait for 
 buffer, and with `stale-share` other cores keep old copies of a line that is written.",
     statuses: "Exit status:
   0  the run is complete, and TSO allows its recording
-  1  a fault of the command line, a file or memory, as standard error says
+  1  an error of the command line, a file or memory, as standard error says
   2  the run is complete, and its recording is a violation of TSO: only with a fault
   3  a text, a number or a fault's name was refused, as the line `refused: ..` says
   4  the run is unfinished: an operation or a buffered store is left
@@ -86,7 +87,7 @@ shorter. In the last two cases TSO allows no order. The answer does not depend o
 number of workers.",
     statuses: "Exit status:
   0  TSO allows the recording
-  1  a fault of the command line, a file or memory, as standard error says
+  1  an error of the command line, a file or memory, as standard error says
   2  the recording is a violation of TSO
   3  the recording or a number was refused, as the line `refused: ..` says
 
@@ -115,7 +116,7 @@ as by `run`, and the exit status is that of `run`. With `--reduce` a violation i
 first, as by `reduce`.",
     statuses: "Exit status:
   0  no trial is a violation, and none is unfinished
-  1  a fault of the command line or memory, as standard error says
+  1  an error of the command line or memory, as standard error says
   2  at least one trial is a violation of TSO: only with a fault
   3  a number or a fault's name was refused, as the line `refused: ..` says
   4  no trial is a violation, and at least one is unfinished
@@ -134,7 +135,7 @@ the caches take its steps under one lock, until the program is complete or the l
 steps is reached. Two runs may differ.",
     statuses: "Exit status:
   0  the run is complete, and TSO allows its recording
-  1  a fault of the command line, a file, memory or a thread, as standard error says
+  1  an error of the command line, a file, memory or a thread, as standard error says
   3  a text or a number was refused, as the line `refused: ..` says
   4  the run is unfinished: the limit of steps was reached before its end
 
@@ -153,7 +154,7 @@ the recording. A violation is answered as by `judge`. The recording's addresses 
 numbered in the order of their first use, and each has to be used.",
     statuses: "Exit status:
   0  TSO allows the recording
-  1  a fault of the command line, a file or memory, as standard error says
+  1  an error of the command line, a file or memory, as standard error says
   2  the recording is a violation of TSO
   3  the recording was refused, as the line `refused: ..` says
 
@@ -174,7 +175,7 @@ test that has it. The addresses are named a0, a1 and so on, or as in the program
 --program, whose operations and initial values have to be those of the recording.",
     statuses: "Exit status:
   0  TSO allows the recording
-  1  a fault of the command line, a file or memory, as standard error says
+  1  an error of the command line, a file or memory, as standard error says
   2  the recording is a violation of TSO
   3  the recording or the program was refused, as the line `refused: ..` says
 
@@ -200,7 +201,7 @@ read. The events of an order stand in memory order, from top to bottom. The addr
 named as by `explain`.",
     statuses: "Exit status:
   0  TSO allows the recording
-  1  a fault of the command line, a file or memory, as standard error says
+  1  an error of the command line, a file or memory, as standard error says
   2  the recording is a violation of TSO
   3  the recording or the program was refused, as the line `refused: ..` says
 
@@ -220,7 +221,7 @@ as in the program of --program, whose operations and initial values have to be t
 recording. A recording that TSO allows is answered as by `judge`.",
     statuses: "Exit status:
   0  TSO allows the recording
-  1  a fault of the command line, a file or memory, as standard error says
+  1  an error of the command line, a file or memory, as standard error says
   2  the recording is a violation of TSO
   3  the recording or the program was refused, as the line `refused: ..` says
 
@@ -238,7 +239,7 @@ that no cycle is shorter. The answer is `holds`, or `does not hold: line N`, whe
 the first at fault, or `does not hold` where lines are missing.",
     statuses: "Exit status:
   0  the verdict holds
-  1  a fault of the command line, a file or memory, as standard error says
+  1  an error of the command line, a file or memory, as standard error says
   2  it does not hold
   3  the recording or a number was refused, as the line `refused: ..` says
 
@@ -267,7 +268,7 @@ Where standard error is a terminal, a survey that lasts shows there how many rec
 done and how many violations were found, until its end; with `--quiet` it shows nothing.",
     statuses: "Exit status:
   0  TSO allows each recording
-  1  a fault of the command line, a file or memory, as standard error says
+  1  an error of the command line, a file or memory, as standard error says
   2  at least one recording is a violation of TSO
   3  no recording is a violation, and at least one was refused; or there is no recording K,
      or a number was refused, as the line `refused: ..` says
@@ -292,7 +293,7 @@ don't add up, lengths of cycles out of order or past 512 or with a count of 0, o
 violation or refusal that its counts leave no room for.",
     statuses: "Exit status:
   0  no trial or recording is a violation, and each is judged
-  1  a fault of the command line, a file or memory, as standard error says
+  1  an error of the command line, a file or memory, as standard error says
   2  at least one trial or recording is a violation of TSO
   3  a text was refused, as the line `refused: ..` says; or of surveys, no recording is a
      violation, and at least one was refused
@@ -300,6 +301,39 @@ violation or refusal that its counts leave no room for.",
 
 Example:
   tsotest merge shards/*.txt",
+};
+
+const OUTCOMES: Page = Page {
+    about: "Prints every outcome that TSO allows of a litmus program",
+    more: "Prints every outcome that TSO allows of a litmus program.
+
+`outcomes: N` says how many there are. Each has a line then: `C:rK=V;` is what the K-th
+reading operation of core C read, from 0 (`ld`, `swap`, `add` and `cas` read), and
+`[NAME]=V;` what an address ends with. They are in order of these numbers.
+
+With `--observed` each line of a log is answered instead: its items, in any order and some
+perhaps left out, between spaces, with `x=1;` for `[x]=1;` too, after a count and `*>` or
+`:>`, if there are any, as litmus7 prints it. A line without `=` and `;` in a word is passed
+over, and one that begins with `{`. Printed is `allowed` or `forbidden`, the count and the
+items; then `allowed: N` and `forbidden: N`, how many lines, and `unseen: N`, how many
+allowed outcomes no line shows, with `--unseen` their lines.
+
+With `--exists` or `--never`, `Yes` or `No` says whether some outcome has all of the items,
+or none; between items stands a space or `/\\`.
+
+The states of a machine with store buffers are looked at, some 700,000 a second, of some 180
+bytes each. If there are more than `--states` allows, `unfinished` is printed alone.",
+    statuses: "Exit status:
+  0  the outcomes are printed; each line of the log is allowed; the condition holds
+  1  an error of the command line, a file or memory, as standard error says
+  2  a line of the log is forbidden; the condition does not hold
+  3  the program, the log, the items or a number was refused, as the line `refused: ..` says
+  4  there are more states than may be looked at
+
+Examples:
+  tsotest outcomes store_buffering.litmus
+  tsotest outcomes store_buffering.litmus --observed board.log --unseen
+  tsotest outcomes store_buffering.litmus --exists '0:r0=0 1:r0=0'",
 };
 
 /// The page of the command with this name.
@@ -316,6 +350,7 @@ pub fn page_of(name: &str) -> Page {
         "verify" => VERIFY,
         "survey" => SURVEY,
         "merge" => MERGE,
+        "outcomes" => OUTCOMES,
         _ => PROGRAM,
     }
 }

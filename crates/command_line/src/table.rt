@@ -176,7 +176,7 @@ const SHOW_RECORDING: ArgumentRow = ArgumentRow {
     name: "show",
     takes: Takes::Number,
     value: "K",
-    help: "Shows the verdict on recording K, from 0, instead of the counts",
+    help: "Shows the verdict on recording K, from 0, instead of the counts; not with --each",
 };
 
 const EACH: ArgumentRow = ArgumentRow {
@@ -190,7 +190,7 @@ const REDUCE: ArgumentRow = ArgumentRow {
     name: "reduce",
     takes: Takes::Nothing,
     value: "",
-    help: "Shows of a violation only the events that it needs, with --show",
+    help: "Shows of a violation only the events that it needs; only with --show",
 };
 
 const QUIET: ArgumentRow = ArgumentRow {
@@ -200,6 +200,13 @@ const QUIET: ArgumentRow = ArgumentRow {
     help: "Shows no progress on standard error",
 };
 
+const WORDS: ArgumentRow = ArgumentRow {
+    name: "words",
+    takes: Takes::Nothing,
+    value: "",
+    help: "Explains a refusal or an error on standard error, as on a terminal",
+};
+
 const ALL: ArgumentRow = ArgumentRow {
     name: "all",
     takes: Takes::Nothing,
@@ -207,53 +214,100 @@ const ALL: ArgumentRow = ArgumentRow {
     help: "Draws all events, not only those that a violation needs",
 };
 
+const STATES: ArgumentRow = ArgumentRow {
+    name: "states",
+    takes: Takes::Number,
+    value: "N",
+    help: "The most states that are looked at, from 1 to 4294967295 [default: 1000000]",
+};
+
+const OBSERVED: ArgumentRow = ArgumentRow {
+    name: "observed",
+    takes: Takes::Text,
+    value: "FILE",
+    help: "Says of each line of a log whether TSO allows it: a file, or - for standard input",
+};
+
+const UNSEEN: ArgumentRow = ArgumentRow {
+    name: "unseen",
+    takes: Takes::Nothing,
+    value: "",
+    help: "Prints the allowed outcomes that no line of the log shows, with --observed",
+};
+
+const EXISTS: ArgumentRow = ArgumentRow {
+    name: "exists",
+    takes: Takes::Text,
+    value: "ITEMS",
+    help: "Says whether some outcome has these items, such as '0:r0=0 1:r0=0'",
+};
+
+const NEVER: ArgumentRow = ArgumentRow {
+    name: "never",
+    takes: Takes::Text,
+    value: "ITEMS",
+    help: "Says whether no outcome has these items",
+};
+
 /// The commands, in the order of the help.
 pub const COMMANDS: &[CommandRow] = &[
     CommandRow {
         name: "run",
-        arguments: &[PROGRAM, STEPS, SEED, ATTEMPTS, BUFFER, FAULT],
+        arguments: &[PROGRAM, STEPS, SEED, ATTEMPTS, BUFFER, FAULT, WORDS],
     },
     CommandRow {
         name: "judge",
-        arguments: &[FILE, WORKERS],
+        arguments: &[FILE, WORKERS, WORDS],
     },
     CommandRow {
         name: "trials",
         arguments: &[
             CORES, OPS, ADDRESSES, SEED, TRIALS, ATTEMPTS, BUFFER, FAULT, WORKERS, SHOW, REDUCE,
-            QUIET,
+            QUIET, WORDS,
         ],
     },
     CommandRow {
         name: "live",
-        arguments: &[PROGRAM, BUFFER, LIMIT],
+        arguments: &[PROGRAM, BUFFER, LIMIT, WORDS],
     },
     CommandRow {
         name: "replay",
-        arguments: &[FILE],
+        arguments: &[FILE, WORDS],
     },
     CommandRow {
         name: "explain",
-        arguments: &[FILE, NAMES],
+        arguments: &[FILE, NAMES, WORDS],
     },
     CommandRow {
         name: "draw",
-        arguments: &[FILE, NAMES, ALL],
+        arguments: &[FILE, NAMES, ALL, WORDS],
     },
     CommandRow {
         name: "reduce",
-        arguments: &[FILE, NAMES],
+        arguments: &[FILE, NAMES, WORDS],
     },
     CommandRow {
         name: "verify",
-        arguments: &[RECORDING, VERDICT, WORKERS],
+        arguments: &[RECORDING, VERDICT, WORKERS, WORDS],
     },
     CommandRow {
         name: "survey",
-        arguments: &[RECORDINGS, WORKERS, EACH, SHOW_RECORDING, REDUCE, QUIET],
+        arguments: &[
+            RECORDINGS,
+            WORKERS,
+            EACH,
+            SHOW_RECORDING,
+            REDUCE,
+            QUIET,
+            WORDS,
+        ],
     },
     CommandRow {
         name: "merge",
-        arguments: &[TEXTS],
+        arguments: &[TEXTS, WORDS],
+    },
+    CommandRow {
+        name: "outcomes",
+        arguments: &[PROGRAM, STATES, OBSERVED, UNSEEN, EXISTS, NEVER, WORDS],
     },
 ];

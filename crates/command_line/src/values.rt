@@ -1,4 +1,4 @@
-//! The numbers, the fault and the flags that entries ask for, and the first refusal, K1 to K10.
+//! The numbers, the fault and the flags that entries ask for, and the first refusal, K1 to K12.
 ghost use Rattle.std.specs.Prelude.{◌≡◌, ◌<◌, IfOk, IfSome, Ok, Some, codes, option_map, true};
 ghost use Rattle.std.specs.Result.{result_err};
 ghost use Rattle.clap.specs.Words.{found_of, rows_of};
@@ -9,7 +9,8 @@ ghost use Rattle.command_line.specs.Refusals.{shape_asked, sizes_refusal};
 
 use crate::entries::{fault_named, flag, maybe_text, number, number_or};
 use crate::options::{
-    ATTEMPTS, BUFFER, DEFAULT_FAULT, DEFAULT_SEED, LIMIT, Limits, OptionRefusal, TRIALS, WORKERS,
+    ATTEMPTS, BUFFER, DEFAULT_FAULT, DEFAULT_SEED, LIMIT, Limits, OptionRefusal, STATES, TRIALS,
+    WORKERS,
 };
 use clap::ArgMatches;
 use machine::Fault;
@@ -31,6 +32,8 @@ pub struct Values {
     pub quiet: bool,
     pub all: bool,
     pub each: bool,
+    pub states: usize,
+    pub unseen: bool,
 }
 
 /// The number of an option, where it is within its limits.
@@ -97,7 +100,7 @@ fn show(
     }
 }
 
-/// What the entries ask for, or the first refusal, K1 to K10.
+/// What the entries ask for, or the first refusal, K1 to K12.
 pub fn read_values(matches: &ArgMatches<'_>) -> Result<Values, OptionRefusal>
     requires { AreEntries (rows_of (found_of matches.now)) }
     ensures ok { IfOk result (λ n. AreValuesAsked n (rows_of (found_of matches.now))) }
@@ -111,6 +114,7 @@ pub fn read_values(matches: &ArgMatches<'_>) -> Result<Values, OptionRefusal>
     let workers = limited(matches, "workers", WORKERS)?;
     let fault = fault(matches)?;
     let show = show(matches, shape.is_some(), trials)?;
+    let states = limited(matches, "states", STATES)?;
     Ok(Values {
         shape,
         seed: number_or(matches, "seed", DEFAULT_SEED),
@@ -125,5 +129,7 @@ pub fn read_values(matches: &ArgMatches<'_>) -> Result<Values, OptionRefusal>
         quiet: flag(matches, "quiet"),
         all: flag(matches, "all"),
         each: flag(matches, "each"),
+        states,
+        unseen: flag(matches, "unseen"),
     })
 }

@@ -1,12 +1,13 @@
 //! The words of a command line.
-ghost use Rattle.std.specs.Prelude.{◌≡◌, Err, IfErr, IfOk, IsSomeAnd, map, string_bytes, true};
+ghost use Rattle.std.specs.Prelude.{◌≡◌, Err, IfErr, IfOk, IfSome, IsSomeAnd, map, string_bytes, true};
 ghost use Rattle.clap.specs.Words.{app_of, subcommand_rows_of};
-ghost use Rattle.command_line.specs.Commands.{HaveNoMistake, asks_of_refusals, command_of, program_app};
+ghost use Rattle.command_line.specs.Commands.{HaveNoMistake, asks_of_one, asks_of_refusals, command_of, program_app};
 ghost use Rattle.command_line.specs.Entries.{HasEntries};
-ghost use Rattle.command_line.specs.Options.{AreOptions, IsMatchesStop, IsOptionStop, AreTaken};
+ghost use Rattle.command_line.specs.Options.{AreOptions, AreTaken, IsMatchesStop, IsOptionStop};
 
 use crate::build::command;
-use crate::entries::names_standard_input_twice;
+use crate::entries::{misfit_of, names_standard_input_twice};
+use crate::meanings::meaning_named;
 use crate::named::named_options;
 use crate::options::{OptionStop, Options};
 use crate::values::read_values;
@@ -34,6 +35,9 @@ fn command_options(alloc: Global, matches: &ArgMatches<'_>) -> Result<Options, O
     if names_standard_input_twice(entries) {
         return Err(OptionStop::StandardInputTwice);
     }
+    if let Some(misfit) = misfit_of(entries) {
+        return Err(OptionStop::Misfit(misfit));
+    }
     let values = read_values(entries)?;
     Ok(named_options(alloc, name, entries, &values)?)
 }
@@ -48,6 +52,19 @@ fn asks_of_refusals(words: &[String]) -> bool
     }
 }
 
+/// The line that says what the refusal means that the words ask of by its name; none where they ask of none.
+fn meaning_asked(words: &[String]) -> Option<&'static str>
+    ensures { IfSome result (λ _. asks_of_one (map string_bytes words.now) ≡ true) }
+{
+    match words {
+        [first, name] if first.as_str() == "help" => meaning_named(name.as_str()),
+        [first, second, name] if first.as_str() == "help" && second.as_str() == "refusals" => {
+            meaning_named(name.as_str())
+        }
+        _ => None,
+    }
+}
+
 /// The options that the words ask for. They come without the program's name.
 pub fn options(alloc: Global, words: &[String]) -> Result<Options, OptionStop>
     ensures ok { IfOk result (λ o. AreOptions o (command_of (map string_bytes words.now))) }
@@ -57,6 +74,9 @@ pub fn options(alloc: Global, words: &[String]) -> Result<Options, OptionStop>
 {
     if asks_of_refusals(words) {
         return Err(OptionStop::RefusalMeanings);
+    }
+    if let Some(line) = meaning_asked(words) {
+        return Err(OptionStop::RefusalMeaning(line));
     }
     let matches = read(command(alloc)?, words)?;
     command_options(alloc, &matches)

@@ -15,7 +15,7 @@ abbrev pub Counts : {X E : Type 0} → ℕ → ℕ → Result X E → Type 0
 Counts before after (Ok x) = after ≡ before
 Counts before after (Err failed) = after ≡ before + 1
 
--- the same of a call whose error says how many failed
+-- a count of failures after a call whose error says how many failed
 abbrev pub CountsBy : {X E : Type 0} → (E → ℕ) → ℕ → ℕ → Result X E → Type 0
 CountsBy how_many before after (Ok x) = after ≡ before
 CountsBy how_many before after (Err error) = after ≡ before + how_many error

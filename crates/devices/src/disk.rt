@@ -36,6 +36,8 @@ pub struct Disk<'a> {
     text: Option<&'a [u8]>,
     tally: Tally,
     line: Option<String>,
+    asked: Option<String>,
+    reason: Option<ErrorKind>,
 }
 
 impl<'a> Disk<'a> {
@@ -54,6 +56,8 @@ impl<'a> Disk<'a> {
                 unended: 0,
             },
             line: None,
+            asked: None,
+            reason: None,
         }
     }
 
@@ -65,13 +69,30 @@ impl<'a> Disk<'a> {
         }
     }
 
+    /// The name of the input that was asked for last, where there was one and memory for its name.
+    pub fn asked(&self) -> Option<&str> {
+        match &self.asked {
+            Some(name) => Some(name.as_str()),
+            None => None,
+        }
+    }
+
+    /// Why the input that was asked for last was not opened, where it was not.
+    pub fn reason(&self) -> Option<ErrorKind> {
+        self.reason
+    }
+
     /// Whether standard error is a terminal.
     pub fn is_shown(&self) -> bool {
         is_shown(self.rt)
     }
 
     /// The input of this name, opened: `-` is standard input, and any other name that of a file.
-    fn opened(&self, name: &str) -> Result<Opened<'a>, InputError> {
+    fn opened(&mut self, name: &str) -> Result<Opened<'a>, InputError>
+        ensures { self.new.tally ≡ self.old.tally }
+    {
+        self.asked = String::from_str(self.rt.alloc(), name).ok();
+        self.reason = None;
         if name == "-" {
             return Ok(match self.text {
                 Some(text) => Opened::Text(text),
@@ -81,7 +102,10 @@ impl<'a> Disk<'a> {
         match File::open(self.rt, name) {
             Ok(file) => Ok(Opened::File(file)),
             Err(error) if error.kind() == ErrorKind::OutOfMemory => Err(InputError::OutOfMemory),
-            Err(_) => Err(InputError::CannotOpen),
+            Err(error) => {
+                self.reason = Some(error.kind());
+                Err(InputError::CannotOpen)
+            }
         }
     }
 }

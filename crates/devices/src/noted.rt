@@ -3,11 +3,8 @@
 use crate::bytes::{Failed, Sink};
 use std::alloc::Global;
 
-/// The most bytes that are noted.
-const MOST: usize = 64;
-
-/// A sink, and the first bytes that it took, at most 64: those of its first `push`, and none where there is no
-/// memory.
+/// A sink, and the text of the first `push` that did not fail: whole, also where only a part of it was taken, and empty
+/// where there is no memory.
 #[derive(Drop)]
 pub struct Noted<T> {
     inner: T,
@@ -27,7 +24,7 @@ impl<T> Noted<T> {
         }
     }
 
-    /// The first bytes that it took.
+    /// The text that it was given first.
     pub fn first(&self) -> &[u8] {
         &self.first
     }
@@ -41,7 +38,7 @@ impl<T: Sink> Sink for Noted<T> {
     fn push(&mut self, text: &[u8]) -> Result<usize, Failed> {
         let n = self.inner.push(text)?;
         if self.first.is_empty() {
-            let _ = self.first.extend_from_slice(&text[..n.min(MOST)]);
+            let _ = self.first.extend_from_slice(text);
         }
         Ok(n)
     }

@@ -75,7 +75,7 @@ abbrev pub AreFailed : List (List ℕ) → CommandError → HostLog → HostLog 
 AreFailed names WriteFailed a b = AreRead names a b
 AreFailed names error a b = AreStopped names (Failed error) a b
 
--- the same of what has no refusal
+-- the inputs of these names were read, or an error says why not all were
 abbrev pub ReadsAll : {X : Type 0} → List (List ℕ) → HostLog → HostLog → Result X CommandError → Type 0
 ReadsAll names a b (Ok x) = AreRead names a b
 ReadsAll names a b (Err error) = AreFailed names error a b

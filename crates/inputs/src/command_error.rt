@@ -2,6 +2,7 @@
 ghost use Rattle.std.specs.Prelude.{◌≡◌, ◌↔◌, ◌⊎◌};
 ghost use Rattle.std.specs.IoError.{error_kind};
 
+use command_line::Misfit;
 use common::OutOfMemory;
 use std::io;
 use std::io::ErrorKind;
@@ -16,6 +17,9 @@ pub enum CommandError {
     /// The command line names standard input for two inputs.
     #[error("tsotest: standard input is named for two inputs")]
     StandardInputTwice,
+    /// Options of the command line don't go together.
+    #[error("{0}")]
+    Misfit(Misfit),
     /// A word of the command line is not UTF-8.
     #[error("tsotest: the command line is not text")]
     NotText,

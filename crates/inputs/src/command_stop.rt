@@ -10,7 +10,7 @@ use std::alloc::{AllocError, Global};
 pub struct PrintedRefusal {
     /// The line that is printed.
     pub line: String,
-    /// The line of the input that is at fault, between quotation marks, where it is one line.
+    /// The line of the input that is at fault, between quotation marks, where it is one line, and perhaps why.
     pub quote: Option<String>,
 }
 

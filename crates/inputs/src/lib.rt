@@ -1,8 +1,10 @@
 //! The named inputs of a command: their bytes, the program or the recording that they are, or why the command fails.
 #![tactic(auto)]
 
+mod causes;
 mod command_error;
 mod command_stop;
+mod failure;
 mod meanings;
 mod named;
 mod reading;
@@ -10,7 +12,8 @@ mod refusal;
 
 pub use command_error::CommandError;
 pub use command_stop::{CommandStop, PrintedRefusal};
-pub use meanings::{REFUSAL_MEANINGS, explained, quoted};
+pub use failure::{asks_for_words, error_text};
+pub use meanings::{explained, quoted};
 pub use named::{program_at, recording_at};
 pub use reading::{opened, text_at};
 pub use refusal::{line_refusal, option_refusal, step_refusal_name};

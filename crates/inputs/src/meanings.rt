@@ -1,85 +1,24 @@
-//! What refusals mean, for a person at a terminal.
+//! What refusals mean, for a person.
 
+use crate::causes::cause_of;
+use command_line::meaning_named;
 use std::alloc::{AllocError, Global};
 
 /// The most bytes of an input's line that are quoted.
 const LONGEST: usize = 64;
 
-/// What each refusal means and, between brackets, what to know about it. N is the number that the refusal has.
-pub const REFUSAL_MEANINGS: &str =
-    "A line `refused: ..` of standard output names one of these. N is the number that it has.
-
-Of a program, whose lines are counted from 1:
-L1   line N is no line of a program (words are separated by one space, each line ends with a newline, `core` comes before operations and `init` after them)
-L2   line N begins a seventeenth core (a program has at most 16 cores)
-L3   line N is a 513th operation (a program has at most 512 operations)
-L4   line N uses a seventeenth address (a program has at most 16 addresses)
-L5   line N has a value above 4294967295 (values have 32 bits, the expected ones of `cas` too)
-L6   line N is an `init` of a name that no operation uses (addresses are what operations use)
-L7   line N is an `init` out of its order (each address has at most one, in the order in which operations first use them)
-L8   line N is an `init` of value 0 (an address without `init` begins with 0)
-
-Of a script, whose lines are counted from 1:
-S1   line N is no step (steps are `exec C`, `drain C`, `gets C NAME`, `getm C NAME` and `put C NAME`, with one space between words and a newline after each)
-S2   line N names a core that the program does not have (cores are numbered from 0)
-S3   line N names an address that the program does not have (addresses have the names that operations use)
-S4   line N is past the 1000000th (a script has at most 1000000 lines)
-
-Of a recording:
-N1   the text is not JSON (a recording is one JSON object)
-N2   the JSON has not the shape of a recording, or a value above 4294967295 (keys are `cores`, `writes`, `version` and perhaps `init`, and of an event those of its kind)
-N3   the version is neither 1 nor 2, or is not the one of what stands beside it (version 2 has `init`, version 1 neither `init` nor an event `C`)
-N4   there are more than 16 cores, 512 events or 16 write lists, an address without a write list, or not an initial value for each write list (version 1 has no initial values)
-N5   event N has a source that is no write to its address (a source is the number of the event whose value was read, or null for the initial value)
-N6   event N read another value than its source wrote (without a source it is the initial value, which is 0 in version 1)
-N7   address N has a write list that is not that of its writes (each event that writes the address stands there once, and nothing else)
-N8   the addresses are not numbered by first use (the first address that an event uses is 0, the next new one 1, and none is unused)
-N9   the recording is not one of the program (cores, operations, values written and initial values are to be those of the program that was run)
-
-Of texts of campaigns or surveys, whose lines are counted from 1, with the name of the file:
-M1   line N is no line of such a text (it has each line that `trials` or `survey` prints, whole; lengths of cycles ascend, up to 512, and each has a count)
-M2   line N begins a text that no list of outcomes has (its counts add up, and after the first of a kind there is room for all of it)
-M3   line N begins a text of the other kind than the first (all are those of campaigns, or all those of surveys)
-M4   line N begins a text with which there are 2^64 or more (a count has 64 bits)
-
-Of options:
-K1   `--cores` is not from 1 to 16 (a program has at most 16 cores)
-K2   `--ops` is not from 1 to 512 (it counts the operations of each core)
-K3   `--addresses` is not from 1 to 16 (a program has at most 16 addresses)
-K4   `--cores` times `--ops` is above 512 (a program has at most 512 operations)
-K5   `--trials` is not from 1 to 65536 (trial K has the seed plus K, so a larger campaign is several, whose seeds follow each other)
-K6   `--attempts` or `--limit` is not from 1 to 1000000 (it counts steps)
-K7   `--buffer` is not from 1 to 512 (it counts the stores that a buffer holds)
-K8   `--workers` is not from 1 to 32 (it counts threads)
-K9   `--fault` is none of the six names (they are none, no-bypass, youngest-first, open-fence, stale-share and early-rmw)
-K10  `--show` is not below `--trials` (trials are numbered from 0)
-K11  `--show` is not below the number of recordings (recordings are numbered from 0)
-";
-
-/// What is said of the refusal with this name.
-fn meaning_of(name: &str) -> Option<&'static str> {
-    for line in REFUSAL_MEANINGS.lines() {
-        if let Some((first, meaning)) = line.split_once(' ') {
-            if first == name {
-                return Some(meaning.trim_start());
-            }
-        }
-    }
-    None
-}
-
-/// What a printed text means for a person, where it is the line of a refusal; with the line of the input that is
-/// refused, where one is. Fails only if out of memory.
-pub fn explained(
+/// What the refusal with this name means for a person, where it has such a number; with the line of the input that is
+/// refused, where one is.
+fn explained_refusal(
     alloc: Global,
-    printed: &str,
+    name: &str,
+    counted: &str,
     line: Option<&str>,
 ) -> Result<Option<String>, AllocError> {
-    let Some(words) = printed.trim_end().strip_prefix("refused: ") else {
+    let Some(meaning) = meaning_named(name).and_then(|line| line.strip_prefix(name)) else {
         return Ok(None);
     };
-    let (name, counted) = words.split_once(' ').unwrap_or((words, ""));
-    let Some((said, advice)) = meaning_of(name).and_then(|meaning| meaning.split_once(" (")) else {
+    let Some((said, advice)) = meaning.trim_start().split_once(" (") else {
         return Ok(None);
     };
     let said = match said.split_once(" N ") {
@@ -91,6 +30,38 @@ pub fn explained(
         None => format!(in alloc; "tsotest: {name}: {said} ({advice}")?,
     };
     Ok(Some(meaning))
+}
+
+/// What a printed text means for a person, where it is the line of a refusal; with the line of the input that is
+/// refused, where one is. Fails only if out of memory.
+pub fn explained(
+    alloc: Global,
+    printed: &str,
+    line: Option<&str>,
+) -> Result<Option<String>, AllocError> {
+    let words = match printed.strip_suffix('\n') {
+        Some(words) => words,
+        None => printed,
+    };
+    let Some(words) = words.strip_prefix("refused: ") else {
+        return Ok(None);
+    };
+    match words.split_once(' ') {
+        Some((name, counted)) => explained_refusal(alloc, name, counted, line),
+        None => explained_refusal(alloc, words, "", line),
+    }
+}
+
+/// Why a line of a text, counted from 1, is none of a program, after the line as it is quoted.
+pub(crate) fn quoted_with_cause(
+    alloc: Global,
+    text: &[u8],
+    line: usize,
+) -> Result<String, AllocError> {
+    let ended = text.iter().filter(|byte| **byte == b'\n').count();
+    let cause = cause_of(line_at(text, line), line <= ended);
+    let quote = quoted(alloc, text, line)?;
+    format!(in alloc; "{quote}: {cause}")
 }
 
 /// A line of a text, counted from 1; the empty one where there is none.

@@ -4,7 +4,7 @@ ghost use Rattle.litmus.specs.Refusals.{refusal_line};
 ghost use Rattle.inputs.specs.Refusal.{option_line, option_refusal_name, step_refusal_name};
 
 use crate::command_stop::PrintedRefusal;
-use crate::meanings::quoted;
+use crate::meanings::{quoted, quoted_with_cause};
 use command_line::OptionRefusal;
 use litmus::refusal_line;
 use machine::StepRefusal;
@@ -23,7 +23,7 @@ pub fn step_refusal_name(refusal: StepRefusal) -> &'static str
     }
 }
 
-/// What is printed for a line of a text, counted from 1.
+/// What is printed for a line of a text, counted from 1; of L1 a person is shown the cause, too.
 pub fn line_refusal(
     alloc: Global,
     name: &str,
@@ -32,9 +32,14 @@ pub fn line_refusal(
 ) -> Result<PrintedRefusal, AllocError>
     ensures { IfOk result (λ refusal. string_bytes refusal.line ≡ refusal_line name.now line) }
 {
+    let quote = if name == "L1" {
+        quoted_with_cause(alloc, text, line)?
+    } else {
+        quoted(alloc, text, line)?
+    };
     Ok(PrintedRefusal {
         line: refusal_line(alloc, name, line)?,
-        quote: Some(quoted(alloc, text, line)?),
+        quote: Some(quote),
     })
 }
 
@@ -53,6 +58,7 @@ fn option_refusal_name(refusal: OptionRefusal) -> &'static str
         OptionRefusal::Workers => "K8",
         OptionRefusal::Fault => "K9",
         OptionRefusal::Show => "K10",
+        OptionRefusal::States => "K12",
     }
 }
 
