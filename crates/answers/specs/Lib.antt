@@ -3,3 +3,4 @@ pub mod Run
 pub mod Reduced
 pub mod Campaign
 pub mod Survey
+pub mod Outcomes

@@ -2,12 +2,14 @@
 #![tactic(auto)]
 
 mod campaigns;
+mod outcome_answers;
 mod reduced;
 mod rendering;
 mod runs;
 mod shown;
 
 pub use campaigns::{campaign_answer, survey_answer, trials_answer};
+pub use outcome_answers::{Condition, condition_answer, log_answer, outcomes_answer};
 pub use reduced::{line_answer, reduced_answer};
 pub use rendering::{Rendering, rendered_answer};
 pub use runs::{finished, script_answer, seeded_answer};

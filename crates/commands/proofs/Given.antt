@@ -1,5 +1,6 @@
 -- What was read of an input whose bytes are known, and what was written.
-use Rattle.std.proofs.Common.{◌≡◌, ◌++◌, ◌∙◌, ℕ, List, Option, Some, None, Result, Ok, Err, IfOk, ap, arith, length}
+use Rattle.std.proofs.Common.{◌≡◌, ◌≤◌, ◌^◌, ◌++◌, ◌∙◌, ℕ, List, Option, Some, None, Result, Ok, Err, IfOk, ap, arith}
+use Rattle.std.proofs.Common.{length, length-append}
 use Rattle.std.proofs.Common.{subst, sym}
 use Rattle.std.specs.Prelude.{IfSome}
 use Rattle.std.specs.Io.KnownBytes.{Appends, Consumes, IsAtEnd, Keeps}
@@ -8,6 +9,8 @@ use Rattle.std.proofs.lemmas.List.{append-nil, take_all}
 use Rattle.verdicts.specs.declared.outcome.Outcome.{Outcome}
 use Rattle.verdicts.specs.declared.printed.Answer.{Answer}
 use Rattle.inputs.specs.declared.command_error.CommandError.{CommandError}
+use Rattle.surveys.specs.declared.error.SurveyError.TheVariants.{TooLong}
+use Rattle.surveys.specs.Surveys.{IsLongRead}
 use Rattle.report.specs.Answer.{IsPut}
 use Rattle.commands.specs.Perform.{Puts}
 
@@ -19,6 +22,20 @@ all_given (Some xs) None after bytes keeps read end = absurd keeps
 all_given (Some xs) (Some ys) None bytes keeps read end = absurd read
 all_given (Some xs) (Some ys) (Some zs) bytes keeps read end =
     sym (append-nil bytes) ∙ ap (λ (l : List ℕ). bytes ++ l) (sym end) ∙ sym read ∙ keeps
+
+-- of an input that is too long 2^64 bytes or more are known, where any are
+pub long_given : (known left after : Option (List ℕ)) → Keeps known left → IsLongRead TooLong left after
+    → IfSome known (λ bytes. 2 ^ 64 ≤ length bytes)
+long_given None left after keeps long = tt
+long_given (Some xs) None after keeps long = absurd keeps
+long_given (Some xs) (Some ys) None keeps long = absurd long.1
+long_given (Some xs) (Some ys) (Some zs) keeps long = omega (
+  arith,
+  long.2,
+  ap (λ (l : List ℕ). length l) keeps,
+  ap (λ (l : List ℕ). length l) long.1,
+  length-append long.0 zs,
+)
 
 -- what is written and handed on, or not, is the answer, or a beginning of it
 pub flushed : (Is : Answer → Type 0) (answer : Answer) (before middle after : Option (List ℕ)) (outcome : Outcome)

@@ -3,7 +3,7 @@ use Rattle.std.specs.Prelude.{◌≡◌, ◌∷◌, [], ℕ, List, Option, None,
 use Rattle.command_line.specs.declared.options.ExplainOptions.{ExplainOptions}
 use Rattle.command_line.specs.declared.options.Options.{Options}
 use Rattle.command_line.specs.declared.options.Options.TheVariants.{Run, Judge, Trials, Live, Replay, Explain, Draw}
-use Rattle.command_line.specs.declared.options.Options.TheVariants.{Reduce, Verify, Survey, Merge}
+use Rattle.command_line.specs.declared.options.Options.TheVariants.{Reduce, Verify, Survey, Merge, Outcomes}
 use Rattle.verdicts.specs.declared.printed.Answer.{Answer}
 use Rattle.answers.specs.declared.rendering.Rendering.TheVariants.{Words, Picture, Reduction}
 use Rattle.inputs.specs.declared.command_stop.CommandStop.{CommandStop}
@@ -11,6 +11,7 @@ use Rattle.inputs.specs.declared.command_stop.CommandStop.TheVariants.{Refused, 
 use Rattle.inputs.specs.declared.command_error.CommandError.TheVariants.{OutOfMemory}
 use Rattle.commands.specs.Judge.{IsFileAnswer, IsJudgeError, IsVerified, IsVerifyStop}
 use Rattle.commands.specs.Merge.{IsMerged, IsMergeStop}
+use Rattle.commands.specs.Outcomes.{IsOutcomes, IsOutcomesStop, question_names}
 use Rattle.commands.specs.Render.{IsRendered, IsRenderingStop}
 use Rattle.commands.specs.Replay.{IsReplayedInput, IsReplayStop}
 use Rattle.commands.specs.Run.{IsLive, IsLiveStop, IsRun, IsRunStop, IsTrials}
@@ -38,6 +39,7 @@ input_names (Reduce o) = render_names o
 input_names (Verify o) = string_bytes o.recording ∷ string_bytes o.verdict ∷ []
 input_names (Survey o) = string_bytes o.file ∷ []
 input_names (Merge o) = map string_bytes o.files.items
+input_names (Outcomes o) = string_bytes o.program ∷ question_names o.question
 
 -- what a command answers to its options and inputs
 abbrev pub IsAnswerTo : (List ℕ → Option (List ℕ)) → Options → Answer → Type 0
@@ -52,6 +54,7 @@ IsAnswerTo inputs (Reduce o) answer = IsRendered inputs Reduction o answer
 IsAnswerTo inputs (Verify o) answer = IsVerified inputs o answer
 IsAnswerTo inputs (Survey o) answer = IsSurveyOf inputs o o.show answer
 IsAnswerTo inputs (Merge o) answer = IsMerged inputs o answer
+IsAnswerTo inputs (Outcomes o) answer = IsOutcomes inputs o answer
 
 -- why a command with these options and inputs stops
 abbrev pub IsCommandStop : (List ℕ → Option (List ℕ)) → Options → CommandStop → Type 0
@@ -67,3 +70,4 @@ IsCommandStop inputs (Reduce o) stop = IsRenderingStop inputs o stop
 IsCommandStop inputs (Verify o) stop = IsVerifyStop inputs o stop
 IsCommandStop inputs (Survey o) stop = IsSurveyStop inputs o o.show stop
 IsCommandStop inputs (Merge o) stop = IsMergeStop inputs o stop
+IsCommandStop inputs (Outcomes o) stop = IsOutcomesStop inputs o stop

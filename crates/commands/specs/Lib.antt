@@ -5,4 +5,5 @@ pub mod Run
 pub mod Render
 pub mod Survey
 pub mod Merge
+pub mod Outcomes
 pub mod Command

@@ -1,5 +1,5 @@
 -- What is printed for the words of a command line.
-use Rattle.std.specs.Prelude.{◌≡◌, ◌≢◌, ◌⊎◌, ◌∷◌, [], ℕ, List, Option, Result, Ok, Err, string_bytes, ⊤}
+use Rattle.std.specs.Prelude.{◌≡◌, ◌≢◌, ◌⊎◌, ◌++◌, ◌∷◌, [], ℕ, List, Option, Result, Ok, Err, string_bytes, ⊤}
 use Rattle.clap.specs.Words.{Text, kind_of}
 use Rattle.clap.specs.declared.error.Error.{Error}
 use Rattle.clap.specs.declared.error.kind.ErrorKind.TheVariants.{DisplayHelp, DisplayVersion}
@@ -21,6 +21,7 @@ use Rattle.command_line.specs.declared.options.OptionStop.TheVariants.{Clap}
 use Rattle.command_line.specs.declared.options.OptionStop.TheVariants as refused
 use Rattle.command_line.specs.declared.options.SurveyOptions.{SurveyOptions}
 use Rattle.command_line.specs.Commands.{command_of}
+use Rattle.command_line.specs.declared.meanings.TheConstants.{REFUSAL_MEANINGS}
 use Rattle.command_line.specs.Options.{AreOptions, IsOptionStop}
 use Rattle.inputs.specs.Inputs.{AreRead, AreStopped, IsStoppedBy}
 use Rattle.inputs.specs.Refusal.{option_line}
@@ -32,14 +33,19 @@ use Rattle.commands.specs.Survey.{IsEachWritten, TellsEach}
 abbrev pub IsMistake : Error → Type 0
 IsMistake error = (kind_of error ≢ DisplayHelp) × (kind_of error ≢ DisplayVersion)
 
--- without options help was asked for, whose text no clause says, or there is a line of refusal, which is that of the
--- options, or an error, which is what clap says, or standard input that is named twice
+-- without options help was asked for, whose text no clause says, or what refusals mean, or there is a line of refusal,
+-- which is that of the options, or an error: what clap says, or standard input that is named twice, or options that
+-- don't go together
 abbrev pub IsWithoutOptions : OptionStop → Result Answer CommandStop → Type 0
 IsWithoutOptions (Clap error) (Ok answer) = (answer.outcome ≡ Done) × (IsMistake error → ⊥)
-IsWithoutOptions refused.RefusalMeanings (Ok answer) = answer.outcome ≡ Done
+IsWithoutOptions refused.RefusalMeanings (Ok answer) = (answer.outcome ≡ Done)
+    × (answer.text.items ≡ REFUSAL_MEANINGS.now)
+IsWithoutOptions (refused.RefusalMeaning line) (Ok answer) = (answer.outcome ≡ Done)
+    × (answer.text.items ≡ line.now ++ 10 ∷ [])
 IsWithoutOptions (refused.Refused refusal) (Err (Refused printed)) = string_bytes printed.line ≡ option_line refusal
 IsWithoutOptions (Clap error) (Err (Failed (CommandLine said))) = (said ≡ error) × IsMistake error
 IsWithoutOptions refused.StandardInputTwice (Err (Failed error.StandardInputTwice)) = ⊤
+IsWithoutOptions (refused.Misfit misfit) (Err (Failed (error.Misfit said))) = said ≡ misfit
 IsWithoutOptions other (Err (Failed error.OutOfMemory)) = ⊤
 IsWithoutOptions other answered = ⊥
 

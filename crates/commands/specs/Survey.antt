@@ -1,6 +1,6 @@
 -- What survey answers.
-use Rattle.std.specs.Prelude.{◌≡◌, ◌≢◌, ◌≤◌, ◌++◌, ◌∷◌, [], ℕ, List, Option, None, Some, true, false, codes, length}
-use Rattle.std.specs.Prelude.{string_bytes, ⊤}
+use Rattle.std.specs.Prelude.{◌≡◌, ◌≢◌, ◌≤◌, ◌^◌, ◌++◌, ◌∷◌, [], ℕ, List, Option, None, Some, true, false, codes}
+use Rattle.std.specs.Prelude.{IfSome, length, string_bytes, ⊤}
 use Rattle.std.specs.Io.KnownBytes.{Appends}
 use Rattle.command_line.specs.declared.options.SurveyOptions.{SurveyOptions}
 use Rattle.ledger.specs.declared.finding.Finding.{Finding}
@@ -56,9 +56,9 @@ abbrev pub IsPastTheEnd : (List ℕ → Option (List ℕ)) → SurveyOptions →
 IsPastTheEnd inputs o None = ⊥
 IsPastTheEnd inputs o (Some k) = OfBytes inputs (string_bytes o.file) (λ bytes. length (lines bytes) ≤ k)
 
--- why the named input is not surveyed: it isn't read, or no number counts its bytes
+-- why the named input is not surveyed: it isn't read, or it has 2^64 bytes or more
 abbrev pub IsSurveyError : (List ℕ → Option (List ℕ)) → SurveyOptions → CommandError → Type 0
-IsSurveyError inputs o TooLong = ⊤
+IsSurveyError inputs o TooLong = IfSome (inputs (string_bytes o.file)) (λ bytes. 2 ^ 64 ≤ length bytes)
 IsSurveyError inputs o error = IsInputError inputs (string_bytes o.file) error
 
 -- why not all of it is reported: it is not surveyed, or a write failed

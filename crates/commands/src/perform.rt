@@ -1,5 +1,5 @@
 //! From the words of a command line to what is printed.
-ghost use Rattle.std.specs.Prelude.{◌≡◌, ◌≢◌, Err, IfErr, IfNone, IfOk, IfSome, List, Option, map, string_bytes};
+ghost use Rattle.std.specs.Prelude.{◌≡◌, ◌≢◌, ◌++◌, ◌∷◌, [], Err, IfErr, IfNone, IfOk, IfSome, List, Option, map, string_bytes};
 ghost use Rattle.clap.specs.Words.{Row, Text};
 ghost use Rattle.command_line.specs.Options.{AreOptions};
 ghost use Rattle.devices.specs.Bytes.{CanGrow, CountsBy};
@@ -13,6 +13,7 @@ ghost use Rattle.commands.specs.Survey.{TellsEach};
 use crate::judge_command::judge_command;
 use crate::live_command::live_command;
 use crate::merge_command::merge_command;
+use crate::outcomes_command::outcomes_command;
 use crate::output::put;
 use crate::render_command::render_command;
 use crate::replay_command::replay_command;
@@ -22,13 +23,28 @@ use crate::trials_command::trials_command;
 use crate::verify_command::verify_command;
 use answers::Rendering;
 use command_line::words::options;
-use command_line::{JudgeOptions, OptionStop, Options, SurveyOptions};
+use command_line::{JudgeOptions, OptionStop, Options, REFUSAL_MEANINGS, SurveyOptions};
 use devices::{Host, Sink};
-use inputs::{CommandError, CommandStop, PrintedRefusal, REFUSAL_MEANINGS, option_refusal};
+use inputs::{CommandError, CommandStop, PrintedRefusal, option_refusal};
 use report::{Answer, Outcome};
 use std::alloc::Global;
 use std::sync::Wait;
 use std::thread::Threads;
+
+/// The line that says what a refusal means, as it is printed.
+fn meaning_answer(alloc: Global, line: &str) -> Result<Answer, CommandStop>
+    ensures ok { IfOk result (λ answer. (answer.outcome ≡ Outcome.Done) × (answer.text.items ≡ line.now ++ 10 ∷ [])) }
+    ensures err { IfErr result (λ stop. stop ≡ CommandStop.Failed CommandError.OutOfMemory) }
+{
+    let mut text = Vec::from_slice(alloc, line.as_bytes())?;
+    let Ok(()) = text.push(b'\n') else {
+        return Err(CommandStop::Failed(CommandError::OutOfMemory));
+    };
+    Ok(Answer {
+        outcome: Outcome::Done,
+        text,
+    })
+}
 
 /// The answer where there are no options: the help that was asked for, a refusal or an error.
 fn without_options(alloc: Global, stop: OptionStop) -> Result<Answer, CommandStop>
@@ -46,9 +62,11 @@ fn without_options(alloc: Global, stop: OptionStop) -> Result<Answer, CommandSto
             })
         }
         OptionStop::RefusalMeanings => Ok(Answer::of(alloc, Outcome::Done, REFUSAL_MEANINGS)?),
+        OptionStop::RefusalMeaning(line) => meaning_answer(alloc, line),
         OptionStop::StandardInputTwice => Err(CommandStop::Failed(
             CommandError::StandardInputTwice,
         )),
+        OptionStop::Misfit(misfit) => Err(CommandStop::Failed(CommandError::Misfit(misfit))),
         OptionStop::Refused(refusal) => Err(CommandStop::Refused(option_refusal(alloc, refusal)?)),
         OptionStop::OutOfMemory => Err(CommandStop::Failed(CommandError::OutOfMemory)),
     }
@@ -85,6 +103,7 @@ fn answer_to<R: Threads + Wait + Sync, H: Host>(
         Options::Verify(verify) => verify_command(rt, alloc, verify, host),
         Options::Survey(survey) => survey_command(rt, alloc, survey, host),
         Options::Merge(merge) => merge_command(alloc, merge, host),
+        Options::Outcomes(outcomes) => outcomes_command(alloc, outcomes, host),
     }
 }
 

@@ -11,13 +11,13 @@ use Rattle.commands.proofs.perform.answer_to.Goals as goal
 trials_rows : (o : TrialsOptions) (command : Option (Text × List Row)) → AreOptions (Trials o) command
     → (rows : List Row) × AreTrialsOptions o rows
 trials_rows o None are = absurd are
-trials_rows o (Some command) are = (command.1, are.2.1)
+trials_rows o (Some command) are = (command.1, are.3.1)
 
 -- options of merge have a name at least
 merge_some : (o : MergeOptions) (command : Option (Text × List Row)) → AreOptions (Merge o) command
     → 0 < length o.files.items
 merge_some o None are = absurd are
-merge_some o (Some command) are = (are.2.1).some
+merge_some o (Some command) are = (are.3.1).some
 
 pub trials_command-requires-after_bounds : goal.trials_command-requires-after_bounds
 trials_command-requires-after_bounds g c κs within = trials_rows c.in-Trials.trials c.requires.options.0

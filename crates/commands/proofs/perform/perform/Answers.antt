@@ -1,10 +1,15 @@
-use Rattle.std.proofs.Common.{inr, map, string_bytes}
+use Rattle.std.proofs.Common.{inl, inr, map, string_bytes}
+use Rattle.std.proofs.lemmas.Result.{IfErr-weaker}
 use Rattle.commands.proofs.Asking.{read_none}
 use Rattle.commands.proofs.Printed.{put_written, unwritten_more}
 use Rattle.commands.proofs.perform.perform.Goals as goal
 
 pub returns-in-Ok-clause-written : goal.returns-in-Ok-clause-written
 returns-in-Ok-clause-written g c = c.performed.ensures.written (map string_bytes c.args.words.now) c.in-Ok.ensures.ok
+
+pub returns-in-Ok-clause-error : goal.returns-in-Ok-clause-error
+returns-in-Ok-clause-error g c = IfErr-weaker c.performed.result _ _
+    (λ error is. inl (c.in-Ok.options, c.in-Ok.ensures.ok, is)) c.performed.ensures.error
 
 pub returns-in-Ok-clause-unwritten : goal.returns-in-Ok-clause-unwritten
 returns-in-Ok-clause-unwritten g c = unwritten_more c.performed.result _ _ _

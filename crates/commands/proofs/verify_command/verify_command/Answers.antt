@@ -33,9 +33,9 @@ returns-in_err-check-clause-reads g c = memory_stopped c.from_residual-in_err-ch
     (rw c.as_str.ensures.value at c.in_ok-recording.ensures.reads)
     (rw c.as_str-2.ensures.value at c.in_ok-text.ensures.reads)) c.from_residual-in_err-check.ensures.1
 
-pub returns-in_err-check_answer-clause-reads : goal.returns-in_err-check_answer-clause-reads
-returns-in_err-check_answer-clause-reads g c = memory_stopped c.from_residual-in_err-check_answer.result _ _ _
+pub returns-in_err-text_check_answer-clause-reads : goal.returns-in_err-text_check_answer-clause-reads
+returns-in_err-text_check_answer-clause-reads g c = memory_stopped c.from_residual-in_err-text_check_answer.result _ _ _
     (read_then (string_bytes c.args.options.now.recording ∷ []) (string_bytes c.args.options.now.verdict ∷ [])
     (g.H.Host.log c.args.host.now) (g.H.Host.log c.recording_at.new.host) (g.H.Host.log c.text_at.new.host)
     (rw c.as_str.ensures.value at c.in_ok-recording.ensures.reads)
-    (rw c.as_str-2.ensures.value at c.in_ok-text.ensures.reads)) c.from_residual-in_err-check_answer.ensures.1
+    (rw c.as_str-2.ensures.value at c.in_ok-text.ensures.reads)) c.from_residual-in_err-text_check_answer.ensures.1

@@ -1,0 +1,121 @@
+//! What is answered of the outcomes of a program.
+
+ghost use Rattle.std.specs.Prelude.{◌≡◌, ◌++◌, ◌∷◌, [], IfOk, codes};
+ghost use Rattle.answers.specs.Outcomes.{IsConditionAnswer, IsLogAnswer, IsOutcomesAnswer, IsText};
+ghost use Rattle.answers.specs.Outcomes.{condition_outcome, condition_text, is_met, log_outcome};
+
+use common::OutOfMemory;
+use outcome_texts::{SeenLine, outcomes_text, report_on};
+use outcomes::{Observation, explains, outcomes};
+use program::Program;
+use report::{Answer, Outcome};
+use std::alloc::Global;
+
+/// What is asked of items.
+#[derive(Clone, Copy, Debug, PartialEq, Eq)]
+pub enum Condition {
+    /// Some outcome has them.
+    Exists,
+    /// None has.
+    Never,
+}
+
+/// What is answered where there are more states than may be seen.
+fn unfinished(alloc: Global) -> Result<Answer, OutOfMemory>
+    ensures { IfOk result (IsText Outcome.Unfinished (codes "unfinished" ++ 10 ∷ [])) }
+{
+    Ok(Answer::of(alloc, Outcome::Unfinished, "unfinished\n")?)
+}
+
+/// The outcomes that TSO allows of a program, as a text, or `unfinished` where there are more states than this. Fails
+/// only if out of memory.
+pub fn outcomes_answer(
+    alloc: Global,
+    program: &Program,
+    states: usize,
+) -> Result<Answer, OutOfMemory>
+    ensures { IfOk result (IsOutcomesAnswer program.now states) }
+{
+    match outcomes(alloc, program, states)? {
+        Some(found) => {
+            let text = outcomes_text(alloc, program, found.as_slice())?;
+            Ok(Answer {
+                outcome: Outcome::Done,
+                text,
+            })
+        }
+        None => unfinished(alloc),
+    }
+}
+
+/// A violation where a line of a log is forbidden.
+fn log_outcome(forbidden: usize) -> Outcome
+    ensures { result ≡ log_outcome forbidden }
+{
+    if forbidden == 0 {
+        Outcome::Done
+    } else {
+        Outcome::Violation
+    }
+}
+
+/// The report on what a log says of a program, with the outcomes that no line shows if `whole`, or `unfinished` where
+/// there are more states than this. Fails only if out of memory.
+pub fn log_answer(
+    alloc: Global,
+    program: &Program,
+    states: usize,
+    lines: &[SeenLine],
+    whole: bool,
+) -> Result<Answer, OutOfMemory>
+    ensures { IfOk result (IsLogAnswer program.now states lines.now whole) }
+{
+    match outcomes(alloc, program, states)? {
+        Some(found) => {
+            let report = report_on(alloc, program, found.as_slice(), lines, whole)?;
+            Ok(Answer {
+                outcome: log_outcome(report.forbidden),
+                text: report.text,
+            })
+        }
+        None => unfinished(alloc),
+    }
+}
+
+/// The answer to a condition.
+fn met_answer(alloc: Global, met: bool) -> Result<Answer, OutOfMemory>
+    ensures { IfOk result (IsText (condition_outcome met) (condition_text met)) }
+{
+    if met {
+        Ok(Answer::of(alloc, Outcome::Done, "Yes\n")?)
+    } else {
+        Ok(Answer::of(alloc, Outcome::Violation, "No\n")?)
+    }
+}
+
+/// Whether a condition holds of these outcomes.
+fn is_met(condition: Condition, found: &[outcomes::Outcome], seen: &[Observation]) -> bool
+    ensures { result ≡ is_met condition found.now seen.now }
+{
+    match condition {
+        Condition::Exists => explains(found, seen),
+        Condition::Never => !explains(found, seen),
+    }
+}
+
+/// `Yes` or `No`: whether a condition holds of a program, or `unfinished` where there are more states than this. Fails
+/// only if out of memory.
+pub fn condition_answer(
+    alloc: Global,
+    program: &Program,
+    states: usize,
+    condition: Condition,
+    seen: &[Observation],
+) -> Result<Answer, OutOfMemory>
+    ensures { IfOk result (IsConditionAnswer program.now states condition seen.now) }
+{
+    match outcomes(alloc, program, states)? {
+        Some(found) => met_answer(alloc, is_met(condition, found.as_slice(), seen)),
+        None => unfinished(alloc),
+    }
+}

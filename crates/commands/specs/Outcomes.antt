@@ -1,0 +1,79 @@
+-- What outcomes answers.
+use Rattle.std.specs.Prelude.{◌≡◌, ◌⊎◌, ◌++◌, ◌∷◌, [], ℕ, Bool, List, Option, Ok, Err, codes, decimal, string_bytes}
+use Rattle.program.specs.Parts.{Parts}
+use Rattle.command_line.specs.declared.options.OutcomesOptions.{OutcomesOptions}
+use Rattle.command_line.specs.declared.options.Question.{Question}
+use Rattle.command_line.specs.declared.options.Question.TheVariants.{All, Observed, Exists, Never}
+use Rattle.litmus.specs.Refusals.{refusal_line}
+use Rattle.outcomes.specs.declared.observed.Observation.{Observation}
+use Rattle.outcome_texts.specs.Log.{log_says}
+use Rattle.outcome_texts.specs.ObservedLine.{condition_of}
+use Rattle.outcome_texts.specs.Seen.{Seen}
+use Rattle.verdicts.specs.declared.printed.Answer.{Answer}
+use Rattle.answers.specs.declared.outcome_answers.Condition.{Condition}
+use Rattle.answers.specs.declared.outcome_answers.Condition.TheVariants as condition
+use Rattle.answers.specs.Outcomes.{IsConditionAnswer, IsLogAnswer, IsOutcomesAnswer}
+use Rattle.inputs.specs.declared.command_error.CommandError.TheVariants.{OutOfMemory}
+use Rattle.inputs.specs.declared.command_stop.CommandStop.{CommandStop}
+use Rattle.inputs.specs.declared.command_stop.CommandStop.TheVariants.{Refused, Failed}
+use Rattle.inputs.specs.Inputs.{AreBytesOf, IsInputError}
+use Rattle.inputs.specs.Named.{IsProgramStop, OfProgram}
+
+-- the names of the inputs of a question
+abbrev pub question_names : Question → List (List ℕ)
+question_names (Observed file whole) = string_bytes file ∷ []
+question_names other = []
+
+-- the log of this name says these lines of a program
+pub record IsLogAt (inputs : List ℕ → Option (List ℕ)) (name : List ℕ) (p : Parts) (lines : List Seen) : Type 0 where
+  pub text : List ℕ
+  pub given : AreBytesOf inputs name text
+  pub says : log_says p text ≡ Ok lines
+
+-- the answer by what a condition says
+abbrev pub IsConditioned : Parts → ℕ → Condition → List ℕ → Answer → Type 0
+IsConditioned p states wanted text answer =
+    (seen : List Observation) × (condition_of p text ≡ Ok seen) × IsConditionAnswer p states wanted seen answer
+
+-- the answer to a question about the outcomes of a program
+abbrev pub IsQuestionAnswer : (List ℕ → Option (List ℕ)) → Parts → ℕ → Question → Answer → Type 0
+IsQuestionAnswer inputs p states All answer = IsOutcomesAnswer p states answer
+IsQuestionAnswer inputs p states (Observed file whole) answer =
+    (lines : List Seen) × IsLogAt inputs (string_bytes file) p lines × IsLogAnswer p states lines whole answer
+IsQuestionAnswer inputs p states (Exists items) answer =
+    IsConditioned p states condition.Exists (string_bytes items) answer
+IsQuestionAnswer inputs p states (Never items) answer =
+    IsConditioned p states condition.Never (string_bytes items) answer
+
+-- the answer of outcomes
+abbrev pub IsOutcomes : (List ℕ → Option (List ℕ)) → OutcomesOptions → Answer → Type 0
+IsOutcomes inputs o answer = OfProgram inputs (string_bytes o.program)
+    (λ p. IsQuestionAnswer inputs p o.states o.question answer)
+
+-- the log of this name is refused, by its first line at fault, or isn't read
+abbrev pub IsLogStop : (List ℕ → Option (List ℕ)) → List ℕ → CommandStop → Parts → Type 0
+IsLogStop inputs name (Refused refusal) p = (text : List ℕ) × AreBytesOf inputs name text × (n : ℕ)
+    × (log_says p text ≡ Err n) × (string_bytes refusal.line ≡ refusal_line (codes "O1") n)
+IsLogStop inputs name (Failed error) p = IsInputError inputs name error
+
+-- the line that is printed for an item of a condition
+abbrev pub item_line : ℕ → List ℕ
+item_line n = codes "refused: O2 item " ++ decimal n ++ 10 ∷ []
+
+-- a condition is refused, by its first item at fault
+abbrev pub IsConditionStop : List ℕ → CommandStop → Parts → Type 0
+IsConditionStop text (Refused refusal) p =
+    (n : ℕ) × (condition_of p text ≡ Err n) × (string_bytes refusal.line ≡ item_line n)
+IsConditionStop text (Failed error) p = error ≡ OutOfMemory
+
+-- why a question about the outcomes of a program is not answered
+abbrev pub IsQuestionStop : (List ℕ → Option (List ℕ)) → Question → CommandStop → Parts → Type 0
+IsQuestionStop inputs All stop p = stop ≡ Failed OutOfMemory
+IsQuestionStop inputs (Observed file whole) stop p = IsLogStop inputs (string_bytes file) stop p
+IsQuestionStop inputs (Exists items) stop p = IsConditionStop (string_bytes items) stop p
+IsQuestionStop inputs (Never items) stop p = IsConditionStop (string_bytes items) stop p
+
+-- why outcomes stops: its program does, or the question about it
+abbrev pub IsOutcomesStop : (List ℕ → Option (List ℕ)) → OutcomesOptions → CommandStop → Type 0
+IsOutcomesStop inputs o stop = IsProgramStop inputs (string_bytes o.program) stop
+    ⊎ OfProgram inputs (string_bytes o.program) (IsQuestionStop inputs o.question stop)
