@@ -37,7 +37,7 @@ from typing import NamedTuple
 
 __all__ = [
     "Answer", "Counts", "Finding", "Kind", "NoRecording", "Recorder", "Status",
-    "draw", "explain", "judge", "reduce", "survey", "verify", "version",
+    "draw", "explain", "judge", "outcomes", "reduce", "survey", "verify", "version",
 ]
 
 MAX_CORES, MAX_EVENTS, MAX_ADDRESSES = 16, 512, 16
@@ -52,6 +52,8 @@ class Status(IntEnum):
     """TSO doesn't allow the recording; of `verify`, the verdict doesn't hold."""
     REFUSED = 3
     """A text is refused; the answer's text is the line that says why."""
+    UNFINISHED = 4
+    """Of `outcomes`, there are more states than may be looked at."""
 
 
 class Answer(NamedTuple):
@@ -132,8 +134,9 @@ def _library():
         for name in ("tsotest_explain", "tsotest_reduce", "tsotest_verify"):
             getattr(library, name).argtypes = [*text, *text, *out, *size]
         library.tsotest_survey.argtypes = [*text, ctypes.POINTER(ctypes.c_uint64), ctypes.c_size_t, *size]
+        library.tsotest_outcomes.argtypes = [*text, ctypes.c_size_t, *out, *size]
         library.tsotest_version.argtypes = [*out, *size]
-        for name in ("judge", "explain", "draw", "reduce", "verify", "survey", "version"):
+        for name in ("judge", "explain", "draw", "reduce", "verify", "survey", "outcomes", "version"):
             getattr(library, f"tsotest_{name}").restype = ctypes.c_uint8
         return library
     raise OSError("tsotest: there is no libtsotest.so; TSOTEST_LIBRARY may name it")
@@ -216,6 +219,12 @@ def _kind_of(code):
     if code >= 65536:
         return Kind.UNREAD
     return Kind.CYCLE if code >= 16 else Kind.ORDERED
+
+
+def outcomes(program, states=1_000_000):
+    """What `tsotest outcomes` prints of a litmus program: every outcome that TSO allows, where it has at most this many states."""
+    text = _bytes(program)
+    return _answer(_library().tsotest_outcomes, text, len(text), states)
 
 
 def version():

@@ -48,6 +48,11 @@ static uint8_t verify(const char *a, const char *b, char *to, size_t room, size_
     return tsotest_verify(a, strlen(a), b, strlen(b), to, room, size);
 }
 
+static uint8_t outcomes(const char *a, const char *b, char *to, size_t room, size_t *size)
+{
+    return tsotest_outcomes(a, strlen(a), strtoull(b, NULL, 10), to, room, size);
+}
+
 static uint8_t version(const char *a, const char *b, char *to, size_t room, size_t *size)
 {
     (void)a;
@@ -312,6 +317,18 @@ static void longest(void)
     free(big);
 }
 
+/* The outcomes of a program: two stores, of which one is last. */
+static void lists(void)
+{
+    const char *two = "core\nst x 1\ncore\nst x 2\n";
+    wants(outcomes, two, "1000", TSOTEST_ALLOWED, "outcomes: 2\n[x]=1;\n[x]=2;\n");
+    wants(outcomes, two, "1", TSOTEST_UNFINISHED, "unfinished\n");
+    wants(outcomes, two, "0", TSOTEST_REFUSED, "refused: K12\n");
+    wants(outcomes, two, "4294967296", TSOTEST_REFUSED, "refused: K12\n");
+    wants(outcomes, "core\nst x\n", "1000", TSOTEST_REFUSED, "refused: L1 line 2\n");
+    wants(outcomes, "", "1", TSOTEST_ALLOWED, "outcomes: 1\n\n");
+}
+
 int main(void)
 {
     answers();
@@ -321,6 +338,7 @@ int main(void)
     limits();
     bound();
     longest();
+    lists();
     wants(version, NULL, NULL, TSOTEST_ALLOWED, "tsotest 0.9.0\n");
     return 0;
 }

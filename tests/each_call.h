@@ -26,7 +26,7 @@ static inline struct file read_file(const char *path)
     return read;
 }
 
-enum { CALLS = 7 };
+enum { CALLS = 8 };
 
 /* Call number `call` on a recording; a survey's codes are written to out as they stand in memory. */
 static inline uint8_t each_call(int call, struct file it, char *out, size_t room, size_t *len)
@@ -39,6 +39,7 @@ static inline uint8_t each_call(int call, struct file it, char *out, size_t room
     case 3: return tsotest_draw(it.text, it.len, "", 0, true, out, room, len);
     case 4: return tsotest_reduce(it.text, it.len, "", 0, out, room, len);
     case 5: return tsotest_verify(it.text, it.len, "cycle of 4\n", 11, out, room, len);
+    case 6: return tsotest_outcomes(it.text, it.len, 1000, out, room, len);
     default:
         status = tsotest_survey(it.text, it.len, (uint64_t *)(void *)out, room / 8, len);
         *len *= 8;

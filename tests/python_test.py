@@ -147,6 +147,19 @@ def coded():
             yield f"code {it.code} is {it.kind!r}, {it.overlook}, {it.cycle}, {it.refusal}; want {want}"
 
 
+def listed(program):
+    """Whether the outcomes of the classic tests are those that the program prints."""
+    for file in sorted(DATA.glob("classics/*.litmus")):
+        answer = tsotest.outcomes(file.read_text())
+        if (answer.status, answer.text) != commanded(program, ["outcomes", file]):
+            yield f"outcomes {file.stem}: {answer}"
+    for given, status in (("core\n", 0), ("cores\n", 3)):
+        if tsotest.outcomes(given).status != status:
+            yield f"outcomes {given!r}"
+    if tsotest.outcomes((DATA / "classics/sb.litmus").read_text(), 1) != (4, "unfinished\n"):
+        yield "outcomes of one state"
+
+
 def refused(what, words, is_of_design):
     """Whether a recorder says so."""
     try:
@@ -361,7 +374,7 @@ def main():
     files = [it.relative_to(DATA) for folder in ("classics", "limits", "recordings") for it in sorted(DATA.glob(f"{folder}/*.json"))]
     with ThreadPoolExecutor(4) as pool:
         failed = [it for part in pool.map(lambda file: [*differs(program, file)], files) for it in part]
-    failed += [*surveyed(program), *layouts(), *coded(), *recorders(), *next_runs(), *empty(), *counted(), *values(), *merged(), *names()]
+    failed += [*surveyed(program), *layouts(), *coded(), *listed(program), *recorders(), *next_runs(), *empty(), *counted(), *values(), *merged(), *names()]
     if tsotest.version() + "\n" != commanded(program, ["--version"])[1]:
         failed.append(f"the version is {tsotest.version()}")
     print(*failed, sep="\n", end="\n" * bool(failed))

@@ -35,8 +35,8 @@ one_of well outcome.Unfinished (inl e) other = absurd (other (λ f. cc) (λ f. c
 one_of well outcome.Unfinished (inr e) other = absurd (other (λ f. cc) (λ f. cc))
 one_of well outcome.Done (inl e) other = absurd (other (λ f. cc) (λ f. cc))
 one_of well outcome.Done (inr e) other = inl (sym e)
-one_of well outcome.Fault (inl e) other = absurd (other (λ f. cc) (λ f. cc))
-one_of well outcome.Fault (inr e) other = absurd (other (λ f. cc) (λ f. cc))
+one_of well outcome.Error (inl e) other = absurd (other (λ f. cc) (λ f. cc))
+one_of well outcome.Error (inr e) other = absurd (other (λ f. cc) (λ f. cc))
 
 -- as a verdict does
 verdict_outcome : (v : Verdict) (o : Outcome) → o ≡ outcome_of v → ComesOut outcome.Ordered o

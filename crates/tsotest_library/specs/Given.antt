@@ -1,5 +1,6 @@
 -- What a call leaves in its caller's buffers.
 use Rattle.std.specs.Prelude.{◌≡◌, ◌≤◌, ◌<◌, ◌++◌, ℕ, List, drop, length}
+use Rattle.ledger.specs.declared.code.TheConstants.{ORDERED, CYCLE, REFUSED, OVERLOOK, LOAD}
 use Rattle.ledger.specs.declared.ledger.Ledger.{Ledger}
 use Rattle.ledger.specs.Counts.{IsLedger}
 use Rattle.verdicts.specs.declared.outcome.Outcome.{Outcome}
@@ -38,3 +39,11 @@ pub record AreCodesAnswered (lines : List ℕ) (outcome : Outcome) (old new : Li
   pub are : AreLineCodes lines codes
   pub outcome_is : IsOutcomeOf codes outcome
   pub written : IsWrittenWhole codes old new n
+
+-- the numbers by which callers in C and Python read codes
+pub record AreCodeNumbers : Type 0 where
+  pub ordered : ORDERED ≡ 3
+  pub cycle : CYCLE ≡ 16
+  pub refused : REFUSED ≡ 65536
+  pub overlook : OVERLOOK ≡ 1048576
+  pub load : LOAD ≡ 1024

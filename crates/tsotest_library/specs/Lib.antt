@@ -3,3 +3,4 @@ pub mod Judged
 pub mod Refused
 pub mod Rendered
 pub mod Checked
+pub mod Listed

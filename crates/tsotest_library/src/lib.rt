@@ -1,18 +1,20 @@
 //! The commands of the program as calls for C: bytes in, the command's text and exit status out.
 #![tactic(auto)]
 
-ghost use Rattle.std.specs.Prelude.{◌≡◌, ◌≤◌};
-ghost use Rattle.verdicts.specs.declared.outcome.Outcome.TheVariants.{Done, Ordered, Refused, Violation};
+ghost use Rattle.std.specs.Prelude.{◌≡◌, ◌≢◌, ◌≤◌};
+ghost use Rattle.verdicts.specs.declared.outcome.Outcome.TheVariants.{Done, Ordered, Refused, Unfinished, Violation};
 ghost use Rattle.answers.specs.declared.rendering.Rendering.TheVariants.{Words, Picture, Reduction};
-ghost use Rattle.tsotest_library.specs.Given.{AreCodesAnswered, IsAnswered, IsNothing, IsWrittenWhole};
+ghost use Rattle.tsotest_library.specs.Given.{AreCodeNumbers, AreCodesAnswered, IsAnswered, IsNothing, IsWrittenWhole};
 ghost use Rattle.tsotest_library.specs.Judged.{IsJudgedOf};
 ghost use Rattle.tsotest_library.specs.Rendered.{IsRenderedOf};
 ghost use Rattle.tsotest_library.specs.Checked.{IsCheckOf};
+ghost use Rattle.tsotest_library.specs.Listed.{IsListedOf};
 
 mod buffers;
 mod checking;
 mod counting;
 mod judging;
+mod listing;
 mod rendering;
 #[cfg(test)]
 mod tests;
@@ -161,6 +163,7 @@ pub extern "C" fn tsotest_survey(
     ensures no_memory { result ≡ 1 → IsNothing codes.old codes.new count.new }
     ensures violation { result ≡ 2 → AreCodesAnswered lines.now Violation codes.old codes.new count.new }
     ensures refused { result ≡ 3 → AreCodesAnswered lines.now Refused codes.old codes.new count.new }
+    ensures numbers { AreCodeNumbers }
 {
     *count = 0;
     let Ok(found) = codes_of_lines(alloc, lines) else {
@@ -171,6 +174,30 @@ pub extern "C" fn tsotest_survey(
     };
     buffers::put_codes(&found, codes, count);
     outcome.status()
+}
+
+/// What `tsotest outcomes --states` prints of the program that the text is, and its exit status: 0 where its outcomes
+/// are listed, 3 where the number of states is refused, by K12, or the text, by L1 to L8, 4 where there are more states
+/// than this; 1 where there is no memory.
+#[unsafe(no_mangle)]
+pub extern "C" fn tsotest_outcomes(
+    alloc: Global,
+    program: &[u8],
+    states: usize,
+    out: &mut [u8],
+    len: &mut usize,
+) -> u8
+    ensures status { result ≤ 4 }
+    ensures listed { result ≡ 0 →
+        IsAnswered (IsListedOf program.now states) Done out.old out.new len.new }
+    ensures no_memory { result ≡ 1 → IsNothing out.old out.new len.new }
+    ensures others { result ≢ 2 }
+    ensures refused { result ≡ 3 →
+        IsAnswered (IsListedOf program.now states) Refused out.old out.new len.new }
+    ensures unfinished { result ≡ 4 →
+        IsAnswered (IsListedOf program.now states) Unfinished out.old out.new len.new }
+{
+    buffers::put_answer(listing::listed_answer(alloc, program, states), out, len)
 }
 
 /// What `tsotest --version` prints; the status is 0.
