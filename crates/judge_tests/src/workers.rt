@@ -11,6 +11,7 @@ use best::{Best, BestSeat};
 use common::{EventId, Gate, MAX_EVENTS, OpenGate};
 use judge::{Verdict, judge_gated};
 use recording::{Event, Recording};
+use relations::Relation;
 use report::{MemorySink, MemorySource, Outcome, answer};
 use search::{SourceJob, least_length, run_jobs};
 use std::alloc::Global;
@@ -19,17 +20,19 @@ use std::sync::atomic::{AtomicBool, AtomicU64, Ordering};
 use std::test::Fail;
 use std::thread;
 use std::thread::Threads;
+use std::time::Instant;
 
 /// What is noted of a piece that is done, beside its worker.
 const DONE: u64 = 1 << 32;
 
-/// Notes who begins and is done with each piece, and holds the worker that begins first until
-/// another is done with a piece.
+/// Notes who begins and is done with each piece. It holds the worker that begins first until another is done with a
+/// piece, and each one that begins or is done for the first time until as many have as are to be at work.
 #[derive(Drop)]
 struct Watch {
     /// Of each piece 0, then its worker's number plus 1, and `DONE` more once it is done.
     pieces: Vec<AtomicU64>,
     workers: usize,
+    at_work: usize,
     started: AtomicU64,
     passed: AtomicBool,
     wrong: AtomicBool,
@@ -41,8 +44,8 @@ fn note_of(worker: usize) -> u64 {
 }
 
 impl Watch {
-    /// One of this many pieces and workers.
-    fn new(alloc: Global, pieces: usize, workers: usize) -> Option<Watch> {
+    /// One of this many pieces and workers, of whom so many are to be at work.
+    fn new(alloc: Global, pieces: usize, workers: usize, at_work: usize) -> Option<Watch> {
         let mut notes = Vec::new(alloc);
         for _ in 0..pieces {
             notes.push(AtomicU64::new(0)).ok()?;
@@ -50,6 +53,7 @@ impl Watch {
         Some(Watch {
             pieces: notes,
             workers,
+            at_work,
             started: AtomicU64::new(0),
             passed: AtomicBool::new(false),
             wrong: AtomicBool::new(false),
@@ -81,15 +85,39 @@ impl Watch {
             .any(|note| note.load(Ordering::SeqCst) == done)
     }
 
-    /// How many workers are done with a piece.
-    fn at_work(&self) -> usize {
+    /// Whether a worker has begun a piece.
+    fn has_begun(&self, worker: usize) -> bool {
+        let begun = note_of(worker);
+        self.pieces
+            .iter()
+            .any(|note| note.load(Ordering::SeqCst) == begun)
+            || self.has_worked(worker)
+    }
+
+    /// How many workers have begun a piece, or are done with one.
+    fn count_workers(&self, are_done: bool) -> usize {
         let mut count = 0usize;
         for worker in 0..self.workers {
-            if self.has_worked(worker) {
+            if self.has_worked(worker) || !are_done && self.has_begun(worker) {
                 count = count.wrapping_add(1);
             }
         }
         count
+    }
+
+    /// Waits for a while until this many workers have begun, or are done.
+    fn wait_for(&self, count: usize, are_done: bool) -> bool {
+        for _ in 0..10_000_000 {
+            if self.wrong.load(Ordering::SeqCst) {
+                break;
+            }
+            if self.count_workers(are_done) >= count {
+                return true;
+            }
+            thread::yield_now();
+        }
+        self.wrong.store(true, Ordering::SeqCst);
+        false
     }
 
     /// Whether each piece was begun once and then done once by its worker.
@@ -102,32 +130,34 @@ impl Watch {
                 .all(|note| note.load(Ordering::SeqCst) > DONE)
     }
 
-    /// Whether each piece was made once, by this many workers, of which the first that began was passed by
-    /// another, where there is one.
-    fn is_right(&self, at_work: usize) -> bool {
+    /// Whether each piece was made once, by as many workers as are to be at work, of whom the first that began was
+    /// passed by another, where there is one.
+    fn is_right(&self) -> bool {
         let passed = self.passed.load(Ordering::SeqCst);
-        self.is_done() && self.at_work() == at_work && passed == (at_work > 1)
+        let at_work = self.count_workers(true);
+        self.is_done() && at_work == self.at_work && passed == (at_work > 1)
     }
 }
 
 impl Gate for Watch {
     fn begin(&self, worker: usize, piece: usize) {
+        let is_first = !self.has_begun(worker);
         self.change(worker, piece, 0, note_of(worker));
-        if self.started.fetch_add(1, Ordering::SeqCst) == 0 && self.workers > 1 {
-            for _ in 0..10_000_000 {
-                // This worker is not.
-                if self.at_work() > 0 {
-                    self.passed.store(true, Ordering::SeqCst);
-                    break;
-                }
-                thread::yield_now();
-            }
+        let number = self.started.fetch_add(1, Ordering::SeqCst);
+        if is_first && self.wait_for(self.at_work, false) && number == 0 && self.at_work > 1 {
+            // This worker is not done.
+            let passed = self.wait_for(1, true);
+            self.passed.store(passed, Ordering::SeqCst);
         }
     }
 
     fn done(&self, worker: usize, piece: usize) {
         let note = note_of(worker);
+        let is_first = !self.has_worked(worker);
         self.change(worker, piece, note, DONE.wrapping_add(note));
+        if is_first {
+            let _ = self.wait_for(self.at_work, true);
+        }
     }
 }
 
@@ -213,18 +243,18 @@ fn is_answered_shorter<R: Threads + Wait + Sync>(rt: &R, alloc: Global, watch: &
 /// Whether two workers find, judge and answer so while the one that begins first is held.
 fn is_passed<R: Threads + Wait + Sync>(rt: &R, alloc: Global) -> bool {
     let (Some(found), Some(judged), Some(answered)) = (
-        Watch::new(alloc, 7, 2),
-        Watch::new(alloc, 7, 2),
-        Watch::new(alloc, 7, 2),
+        Watch::new(alloc, 7, 2, 2),
+        Watch::new(alloc, 7, 2, 2),
+        Watch::new(alloc, 7, 2, 2),
     ) else {
         return false;
     };
     find_the_shorter(rt, alloc, 2, &found)
-        && found.is_right(2)
+        && found.is_right()
         && is_judged_shorter(rt, alloc, &judged)
-        && judged.is_right(2)
+        && judged.is_right()
         && is_answered_shorter(rt, alloc, &answered)
-        && answered.is_right(2)
+        && answered.is_right()
 }
 
 #[test]
@@ -258,11 +288,11 @@ fn is_made_once<R: Threads + Wait + Sync>(
 {
     let (Some(recording), Some(watch)) = (
         reversed(alloc, events),
-        Watch::new(alloc, events as usize, workers),
+        Watch::new(alloc, events as usize, workers, at_work),
     ) else {
         return false;
     };
-    is_judged(rt, alloc, &recording, workers, &[0, 1], &watch) && watch.is_right(at_work)
+    is_judged(rt, alloc, &recording, workers, &[0, 1], &watch) && watch.is_right()
 }
 
 // Of as many workers as may be asked for, few events occupy two, and the most events three.
@@ -272,5 +302,88 @@ fn workers_make_each_row_once(rt: HostRuntime) -> Result<(), Fail> {
     assert!(rt; is_made_once(&rt, rt.alloc(), 40, 8, 2));
     assert!(rt; is_made_once(&rt, rt.alloc(), MAX_EVENTS as EventId, 2, 2));
     assert!(rt; is_made_once(&rt, rt.alloc(), MAX_EVENTS as EventId, 8, 3));
+    Ok(())
+}
+
+/// How long a search of one worker takes from the beginning of each row to its end.
+struct Lasting<'a> {
+    rt: &'a HostRuntime,
+    start: Instant,
+    /// When the last row began, and how long all lasted, in nanoseconds.
+    begun: AtomicU64,
+    inside: AtomicU64,
+}
+
+impl Drop for Lasting<'_> {
+    fn drop(self) {
+        let Self {
+            rt,
+            start,
+            begun,
+            inside,
+        } = self;
+    }
+}
+
+impl Lasting<'_> {
+    /// The nanoseconds since the start.
+    fn now(&self) -> u64 {
+        match self.start.elapsed(self.rt) {
+            Ok(time) => time
+                .as_secs()
+                .saturating_mul(1_000_000_000)
+                .saturating_add(time.subsec_nanos() as u64),
+            Err(_) => 0,
+        }
+    }
+}
+
+impl Gate for Lasting<'_> {
+    fn begin(&self, _worker: usize, _piece: usize) {
+        self.begun.store(self.now(), Ordering::SeqCst);
+    }
+
+    fn done(&self, _worker: usize, _piece: usize) {
+        let lasted = self.now().saturating_sub(self.begun.load(Ordering::SeqCst));
+        self.inside.fetch_add(lasted, Ordering::SeqCst);
+    }
+}
+
+/// Whether most of the time of a search by one worker passes between the beginning of a row and its end.
+fn lasts_inside<R: Threads + Wait + Sync>(
+    rt: &HostRuntime,
+    threads: &R,
+    alloc: Global,
+) -> Option<bool> {
+    let recording = reversed(alloc, MAX_EVENTS as EventId)?;
+    let relation = Relation::of(alloc, &recording).ok()?;
+    let (jobs, best, mut seat) = begun(alloc, relation)?;
+    let gate = Lasting {
+        rt,
+        start: Instant::now(rt).ok()?,
+        begun: AtomicU64::new(0),
+        inside: AtomicU64::new(0),
+    };
+    let rows = run_jobs(threads, alloc, jobs, &best, &mut seat, 1, &gate).ok()?;
+    let all = gate.now();
+    drop(rows);
+    let inside = gate.inside.load(Ordering::SeqCst);
+    Some(inside > all / 2)
+}
+
+/// Whether it does so in one run of many, since a thread may be kept from its processor.
+fn may_last_inside<R: Threads + Wait + Sync>(rt: &HostRuntime, threads: &R, alloc: Global) -> bool {
+    for _ in 0..10 {
+        if lasts_inside(rt, threads, alloc) == Some(true) {
+            return true;
+        }
+    }
+    false
+}
+
+// A row that is made before its beginning, or again after its end, takes time of its own.
+#[test]
+fn rows_are_made_between_their_beginning_and_end(rt: HostRuntime) -> Result<(), Fail> {
+    assert!(rt; may_last_inside(&rt, &rt, rt.alloc()));
     Ok(())
 }

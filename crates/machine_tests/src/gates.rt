@@ -1,7 +1,7 @@
 //! Threads that a gate holds.
 
 use crate::plain::{STORE_BUFFERING, program};
-use common::Gate;
+use common::{Gate, OpenGate};
 use live::drive;
 use machine::Step;
 use std::alloc::Global;
@@ -74,5 +74,96 @@ fn a_core_waits_for_no_other(rt: HostRuntime) -> Result<(), Fail> {
     assert!(rt; is_driven(&rt, rt.alloc(), &gate)?);
     assert!(rt; is_done(&gate.cores[0]) && is_done(&gate.cores[1]));
     assert!(rt; !gate.wrong.load(Ordering::SeqCst));
+    Ok(())
+}
+
+/// Holds core 0 as it begins, until core 1 is done with its first step and a long while after.
+#[derive(Drop)]
+struct Held {
+    other: AtomicU64,
+}
+
+impl Gate for Held {
+    fn begin(&self, _worker: usize, piece: usize) {
+        if piece == 0 && is_done(&self.other) {
+            for _ in 0..300_000 {
+                thread::yield_now();
+            }
+        }
+    }
+
+    fn done(&self, _worker: usize, piece: usize) {
+        if piece == 1 {
+            self.other.store(2, Ordering::SeqCst);
+        }
+    }
+}
+
+/// A core whose last operations wait for its store to be in memory, beside another core.
+const DRAINED_BESIDE: &str = "core\nst x 1\ncore\nst y 1\nfence\nswap y 2\nld x\n";
+
+/// Whether the other core comes to its end, by drains and transactions, while core 0 is held.
+fn ends_beside<R: Threads + Wait + Sync>(rt: &R, alloc: Global, gate: &Held) -> Result<bool, Fail> {
+    let program = program(alloc, DRAINED_BESIDE)?;
+    let traced = drive(rt, alloc, program, 8, 100_000, gate)?;
+    let mut steps = traced.trace().iter();
+    let first = steps.position(|step| *step == Step::Exec(0));
+    let before = traced
+        .trace()
+        .iter()
+        .take(first.unwrap_or(0))
+        .filter(|step| **step == Step::Exec(1))
+        .count();
+    Ok(traced.machine().is_complete() && before == 4)
+}
+
+#[test]
+fn no_thread_waits_for_core_0(rt: HostRuntime) -> Result<(), Fail> {
+    let gate = Held {
+        other: AtomicU64::new(0),
+    };
+    assert!(rt; ends_beside(&rt, rt.alloc(), &gate)?);
+    Ok(())
+}
+
+/// A core with stores to one address, beside a core with loads of another.
+const STORES_BESIDE_LOADS: &str =
+    "core\nst x 1\nst x 2\nst x 3\nst x 4\nst x 5\nst x 6\nst x 7\nst x 8\ncore\nld y\nld y\nld y\nld y\nld y\nld y\nld y\nld y\nld y\nld y\nld y\nld y\nld y\nld y\nld y\nld y\n";
+
+/// Whether a step of another kind comes after a drain of core 0 that left stores in its buffer, of which 8 are
+/// executed.
+fn leaves_stores(steps: &[Step]) -> bool {
+    let mut waiting = 0usize;
+    let mut has_drained = false;
+    for step in steps {
+        match step {
+            Step::Exec(0) => waiting = waiting.wrapping_add(1),
+            Step::Drain(0) => waiting = waiting.wrapping_sub(1),
+            _ => {}
+        }
+        let is_drain = *step == Step::Drain(0);
+        if has_drained && !is_drain {
+            return true;
+        }
+        has_drained = is_drain && waiting > 0;
+    }
+    false
+}
+
+/// Whether a run of many has such a drain.
+fn has_single_drains<R: Threads + Wait + Sync>(rt: &R, alloc: Global) -> Result<bool, Fail> {
+    for _ in 0..200 {
+        let program = program(alloc, STORES_BESIDE_LOADS)?;
+        let traced = drive(rt, alloc, program, 8, 100_000, &OpenGate)?;
+        if leaves_stores(traced.trace()) {
+            return Ok(true);
+        }
+    }
+    Ok(false)
+}
+
+#[test]
+fn each_drain_is_a_turn(rt: HostRuntime) -> Result<(), Fail> {
+    assert!(rt; has_single_drains(&rt, rt.alloc())?);
     Ok(())
 }

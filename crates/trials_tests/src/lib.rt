@@ -8,6 +8,10 @@ mod desks;
 #[cfg(test)]
 mod judged;
 #[cfg(test)]
+mod lasting;
+#[cfg(test)]
+mod meetings;
+#[cfg(test)]
 mod memory;
 #[cfg(test)]
 mod progress_lines;

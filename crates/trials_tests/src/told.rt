@@ -115,14 +115,38 @@ fn each_trial_begins_once_and_is_done_once_by_one_worker(rt: HostRuntime) -> Res
     Ok(())
 }
 
-/// An order, nothing, an overlook, a load without its source, and no end.
+/// Whether this many workers report so of a campaign of 64 trials, of which some are unfinished and some violations.
+fn is_unfinished_told<R: Threads + Wait + Sync>(
+    rt: &R,
+    alloc: Global,
+    short: &Campaign,
+    workers: usize,
+) -> Result<bool, Fail>
+    requires { (1 ≤ workers) × (workers ≤ MAX_WORKERS) }
+{
+    let gate = Told::new(alloc, 64)?;
+    let ledger = ledger_by(rt, alloc, short, workers, &gate)?;
+    let judged = ledger.total.saturating_sub(ledger.unjudged);
+    let violations = judged.saturating_sub(ledger.ordered);
+    Ok(ledger.unjudged > 0 && violations > 0 && gate.is_right(violations, ledger.first))
+}
+
+#[test]
+fn an_unfinished_trial_is_no_violation(rt: HostRuntime) -> Result<(), Fail> {
+    let short = campaign((2, 4, 2), 64, 200, Fault::NoBypass)?;
+    assert!(rt; is_unfinished_told(&rt, rt.alloc(), &short, 2)?);
+    Ok(())
+}
+
+/// An order, nothing, an overlook, a load without its source, and a cycle, which has no end of its line.
 const LINES: &str = r#"{"version":1,"writes":[[0]],"cores":[[{"k":"S","a":0,"w":1}]]}
 
 {"version":1,"writes":[[0]],"cores":[[{"k":"S","a":0,"w":1},{"k":"L","a":0,"r":0,"s":null}]]}
-{"version":1,"writes":[[0]],"cores":[[{"k":"S","a":0,"w":1},{"k":"L","a":0,"r":1,"s":1}]]}"#;
+{"version":1,"writes":[[0]],"cores":[[{"k":"S","a":0,"w":1},{"k":"L","a":0,"r":1,"s":1}]]}
+{"version":1,"writes":[[0],[1]],"cores":[[{"k":"S","a":0,"w":1},{"k":"S","a":1,"w":1}],[{"k":"L","a":1,"r":1,"s":1},{"k":"L","a":0,"r":0,"s":null}]]}"#;
 
 /// These lines, 128 times.
-fn many_lines(alloc: Global) -> Result<String, AllocError> {
+pub fn many_lines(alloc: Global) -> Result<String, AllocError> {
     let mut lines = String::new(alloc);
     for _ in 0..128 {
         lines.push_str(LINES)?;
@@ -131,7 +155,7 @@ fn many_lines(alloc: Global) -> Result<String, AllocError> {
     Ok(lines)
 }
 
-/// Whether this many workers tell a gate of each of 384 recordings, a third of which are violations.
+/// Whether this many workers report to a gate each of 512 recordings, half of which are violations.
 fn is_survey_told<R: Threads + Wait + Sync>(
     rt: &R,
     alloc: Global,
@@ -139,13 +163,13 @@ fn is_survey_told<R: Threads + Wait + Sync>(
     workers: usize,
 ) -> Result<bool, AllocError> {
     let lines = many_lines(alloc)?;
-    let gate = Told::new(alloc, 384)?;
+    let gate = Told::new(alloc, 512)?;
     let mut source = MemorySource::new(lines.as_bytes());
     let mut sink = MemorySink::new(alloc);
     let Ok(_) = survey(rt, alloc, &mut source, &mut sink, each, workers, &gate) else {
         return Ok(false);
     };
-    Ok(gate.is_right(128, Some(1)))
+    Ok(gate.is_right(256, Some(1)))
 }
 
 #[test]
