@@ -2,7 +2,7 @@
 
 use commands::perform::perform;
 use devices::{Device, Disk};
-use inputs::CommandError;
+use inputs::{asks_for_words, error_text};
 use report::Outcome;
 use std::alloc::{AllocError, Global};
 use std::io;
@@ -45,21 +45,16 @@ impl Write for Buffered {
     }
 }
 
-/// What a command printed that came out so.
+/// What a command printed that came out so, or of which this was said.
 fn printed_of(
     alloc: Global,
     flushed: &[u8],
-    performed: Result<Outcome, CommandError>,
+    performed: Result<Outcome, String>,
 ) -> Result<Printed, AllocError> {
     let mut text = Vec::from_slice(alloc, flushed)?;
     let status = match performed {
         Ok(outcome) => outcome.status(),
-        Err(error) => {
-            let said = match error {
-                // This text ends its own lines.
-                CommandError::CommandLine(said) => format!(in alloc; "{said}")?,
-                error => format!(in alloc; "{error}\n")?,
-            };
+        Err(said) => {
             text.extend_from_slice(said.as_bytes())?;
             Outcome::Error.status()
         }
@@ -91,6 +86,12 @@ pub fn perform_words<R: Threads + Wait + Sync>(
         kept: Vec::new(rt.alloc()),
         flushed: Vec::new(rt.alloc()),
     });
-    let performed = perform(threads, rt.alloc(), &words, &mut host, &mut out);
+    let performed = match perform(threads, rt.alloc(), &words, &mut host, &mut out) {
+        Ok(outcome) => Ok(outcome),
+        Err(error) => {
+            let is_explained = asks_for_words(&words);
+            Err(error_text(rt.alloc(), &words, &error, &host, is_explained)?)
+        }
+    };
     Ok(printed_of(rt.alloc(), &out.into_inner().flushed, performed)?)
 }
