@@ -27,28 +27,28 @@ drawn_op word e a =
 abbrev pub with_fence : Body → Body
 with_fence p = record { names = p.names; cores = with_op p.cores Fence }
 
--- the same with the operation that a word makes, whose address is the one that is named n
+-- the names and operations with the one that a word makes, whose address is the one that is named n
 abbrev pub with_access : Body → ℕ → ℕ → Body
 with_access p word n = record {
   names = names_with p.names (address_name n);
   cores = with_op p.cores (drawn_op word (op_count p.cores) (name_number p.names (address_name n)));
 }
 
--- the same with the operation that a word makes, over this many addresses
+-- the names and operations with the one that a word makes, over this many addresses
 abbrev pub with_word : ℕ → Body → ℕ → Body
 with_word addresses p word =
     if word % 8 == 6 then with_fence p else with_access p word (word / 16 % addresses)
 
--- the same with the operations that words make, on the last core
+-- the names and operations with those that words make, on the last core
 abbrev pub with_words : ℕ → Body → List ℕ → Body
 with_words addresses p [] = p
 with_words addresses p (word ∷ words) = with_words addresses (with_word addresses p word) words
 
--- the same with one core more, which has no operation yet
+-- the names and operations with one core more, which has none yet
 abbrev pub with_core : Body → Body
 with_core p = record { names = p.names; cores = p.cores ++ [] ∷ [] }
 
--- the same with n cores more, each with the operations of the next words
+-- the names and operations with n cores more, each with those of the next words
 abbrev pub with_cores : Sizes → ℕ → Body → List ℕ → Body
 with_cores s zero p words = p
 with_cores s (suc n) p words =

@@ -21,7 +21,7 @@ impl Builder {
     ghost use Rattle.program.specs.Parts.{Body};
     ghost use Rattle.program.specs.declared.refusal.LineRefusal.{LineRefusal};
     ghost use Rattle.program.specs.declared.line_error.LineError.TheVariants.{OutOfMemory};
-    ghost use Rattle.program.specs.Steps.{empty, core_step, fence_step, load_step, write_step, op_fault};
+    ghost use Rattle.program.specs.Steps.{empty, core_step, fence_step, load_step, write_step, op_refusal};
     ghost use Rattle.program.specs.Steps.{at_name, names_with, name_number, with_op, write_op, compare_step};
     ghost use Rattle.program.specs.Numbers.{IsValue};
     ghost use Rattle.program.specs.Reading.{AnswersLine, seen_as};
@@ -51,8 +51,8 @@ impl Builder {
         Ok(())
     }
 
-    fn op_fault(&self) -> Option<LineRefusal>
-        ensures value { result ≡ op_fault (state self.now) }
+    fn op_refusal(&self) -> Option<LineRefusal>
+        ensures value { result ≡ op_refusal (state self.now) }
         ensures some_core { result ≡ None → 0 < length self.now.cores.items }
     {
         if self.cores.is_empty() {
@@ -89,14 +89,14 @@ impl Builder {
         ensures { AnswersLine (seen_as result (λ _. state self.new)) number
             (fence_step (state self.old)) }
     {
-        if let Some(fault) = self.op_fault() {
-            return Err(LitmusError::AtLine(fault, number));
+        if let Some(refusal) = self.op_refusal() {
+            return Err(LitmusError::AtLine(refusal, number));
         }
         self.add(Op::Fence)?;
         Ok(())
     }
 
-    /// The address of a name, where an operation with it may come; else the line's fault.
+    /// The address of a name, where an operation with it may come; else the line's refusal.
     fn address_of(&mut self, name: Name, number: usize) -> Result<Addr, LitmusError>
         ensures ok { OnOk result ((r : Result Body LineRefusal) →
             at_name (state self.old) name r ≡ r) }
@@ -107,8 +107,8 @@ impl Builder {
         ensures cores { self.new.cores.items ≡ self.old.cores.items }
         ensures some_core { OnOk result (0 < length self.new.cores.items) }
     {
-        if let Some(fault) = self.op_fault() {
-            return Err(LitmusError::AtLine(fault, number));
+        if let Some(refusal) = self.op_refusal() {
+            return Err(LitmusError::AtLine(refusal, number));
         }
         let (addr, _) = self.names.insert_full(name)?;
         if MAX_ADDRESSES < self.names.len() {

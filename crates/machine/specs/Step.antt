@@ -1,5 +1,5 @@
--- One step of the machine: the first guard that is false, else one effect. What a fault changes is
--- told by its words.
+-- One step of the machine: the first guard that is false, else one effect. The words of a fault
+-- say what it changes.
 use Rattle.std.specs.Prelude.{◌≡◌, ◌+◌, ◌<◌, ◌&&◌, ◌==◌, ℕ, Bool, nat_lt, if◌then◌else◌, Option, Some, None}
 use Rattle.std.specs.Prelude.{Result, Ok, Err, List, [], ◌∷◌, ◌++◌, length, slice_index_or, slice_set}
 use Rattle.std.specs.Prelude.{slice_get}

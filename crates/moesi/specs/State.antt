@@ -41,7 +41,7 @@ Has s a copy = HasBlock (block_of s a) copy
 abbrev pub opening_with : ℕ → List ℕ → CacheState
 opening_with cores init = record { cores = cores; blocks = map (λ v. block_with cores v) init }
 
--- the same where memory is 0
+-- at first no line is valid, and memory is 0
 abbrev pub opening_caches : ℕ → ℕ → CacheState
 opening_caches cores addresses = opening_with cores (replicate addresses 0)
 

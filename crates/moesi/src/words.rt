@@ -51,7 +51,7 @@ pub(crate) fn fill_memory(words: &mut [u64], cores: usize, init: &[u32])
     }
 }
 
-/// What a core that asks is told of the address: whether some line is valid, and the word whose
+/// What a core that asks for a line learns of the address: whether some line is valid, and the word whose
 /// data it is given, that of the first line that supplies them, else memory's.
 pub(crate) fn asked(words: &[u64], cores: usize, addresses: usize, addr: usize) -> (bool, u64)
     requires words { AreWords cores addresses words.now }

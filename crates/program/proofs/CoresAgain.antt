@@ -19,7 +19,7 @@ use Rattle.common.specs.declared.limits.TheConstants.{MAX_CORES, MAX_EVENTS, MAX
 use Rattle.program.specs.Names.{AreLawful, name_eq, name_of, name_text, no_name}
 use Rattle.program.specs.Lines.{Line, core_line, fence_line, load_line, write_line, compare_line}
 use Rattle.program.specs.Parts.{Small, Body, op_count, addr_of, use_addr, use_ops, use_cores}
-use Rattle.program.specs.Steps.{names_with, name_number, with_op, write_op, op_fault, core_step, fence_step}
+use Rattle.program.specs.Steps.{names_with, name_number, with_op, write_op, op_refusal, core_step, fence_step}
 use Rattle.program.specs.Steps.{load_step, write_step, compare_step}
 use Rattle.program.specs.Drafts.{Draft, plain, said_step, step}
 use Rattle.program.specs.Reading.{read_from}
@@ -35,7 +35,7 @@ is_zero_no : (n : ℕ) → 0 < n → (n == 0) ≡ false
 is_zero_no n h = grind (arith, h)
 
 -- where there is a core and room, an operation may come
-fault_none : (p : Body) → 0 < length p.cores → op_count p.cores < MAX_EVENTS → op_fault p ≡ None
+fault_none : (p : Body) → 0 < length p.cores → op_count p.cores < MAX_EVENTS → op_refusal p ≡ None
 fault_none p some room =
     rw (is_zero_no (length p.cores) some, lt-ltb (op_count p.cores) MAX_EVENTS room) refl
 
@@ -49,13 +49,13 @@ unfolding core_step
 core_so p few = rw (lt-ltb (length p.cores) MAX_CORES few) refl
 
 -- what a fence does
-fence_so : (p : Body) → op_fault p ≡ None → Does p fence_line (record p { cores = with_op p.cores Fence })
+fence_so : (p : Body) → op_refusal p ≡ None → Does p fence_line (record p { cores = with_op p.cores Fence })
 unfolding fence_step
 fence_so p none = rw none refl
 
 -- where an operation may come, the address of its name is this, and these are the names with it
 record Takes (p : Body) (name : Name) (more : List Name) (a : ℕ) : Type 0 where
-  none : op_fault p ≡ None
+  none : op_refusal p ≡ None
   next : names_with p.names name ≡ more
   number : name_number p.names name ≡ a
   few : nat_lt MAX_ADDRESSES (length more) ≡ false
@@ -99,7 +99,7 @@ pub record AreNames (all : List Name) : Type 0 where
 
 -- an operation with a name is read
 named_next : (all : List Name) (p : Body) (back : List Name) (a n : ℕ) (op : Op) → AreNames all → all
-    ≡ p.names ++ back → op_fault p ≡ None → use_addr (length p.names) (Some a) ≡ Some n →
+    ≡ p.names ++ back → op_refusal p ≡ None → use_addr (length p.names) (Some a) ≡ Some n →
     n ≤ length all → (name_of (name_text (name_at all a)) ≡ Some (name_at all a) → IsNamed (op_line all op)) →
     Fits (op_line all op) → ((more : List Name) → Takes p (name_at all a) more a →
     Does p (op_line all op) (record { names = more; cores = with_op p.cores op })) → Next all p op n
@@ -120,7 +120,7 @@ named_next all p back a n op h parts none used le named fits does =
 
 -- an operation is read
 op_next : (all : List Name) (p : Body) (back : List Name) (op : Op) (n : ℕ) → AreNames all → all
-    ≡ p.names ++ back → op_fault p ≡ None → use_addr (length p.names) (addr_of op) ≡ Some n →
+    ≡ p.names ++ back → op_refusal p ≡ None → use_addr (length p.names) (addr_of op) ≡ Some n →
     n ≤ length all → Small op → Next all p op n
 op_next all p back Fence n h parts none used le small =
     record {

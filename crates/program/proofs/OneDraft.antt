@@ -14,7 +14,7 @@ use Rattle.program.specs.Names.{name_eq}
 use Rattle.program.specs.Parts.{Body, IsSmall}
 use Rattle.program.specs.Steps.{name_number, core_step, fence_step, load_step, write_step, compare_step}
 use Rattle.program.specs.Steps.{unless}
-use Rattle.program.specs.Drafts.{Draft, IsDraft, body_step, filled, init_fault, init_step, plain}
+use Rattle.program.specs.Drafts.{Draft, IsDraft, body_step, filled, init_refusal, init_step, plain}
 use Rattle.program.specs.Drafts.{drafted_program, said_step, step, with_body}
 use Rattle.program.specs.Spelling.{body_text, init_text, line_text, name_at, spelling, value_text}
 use Rattle.program.specs.NameListLaws.{all_push}
@@ -85,7 +85,7 @@ record NoFault (d : Draft) (a n : ℕ) : Type 0 where
   some : (n == 0) ≡ false
 
 -- what is known where there is no fault
-no_fault : (d : Draft) (a n : ℕ) → init_fault d a n ≡ None → NoFault d a n
+no_fault : (d : Draft) (a n : ℕ) → init_refusal d a n ≡ None → NoFault d a n
 no_fault d a n h = by (nat_le (2 ^ 32) n) (nat_le (length d.body.names) a) (nat_lt a (length d.init))
     (n == 0) refl refl refl refl h
   where
@@ -117,7 +117,7 @@ keeps_init : (d e : Draft) (line : List ℕ) (name : Name) (n : ℕ) → IsDraft
     (n < 2 ^ 32 → line_text (init_line name n) ≡ line) → init_step d name n ≡ Ok e →
     KeepsDraft d line e
 unfolding init_step
-keeps_init d e line name n h is f = by (init_fault d a n) refl
+keeps_init d e line name n h is f = by (init_refusal d a n) refl
   where
     a : ℕ
     a = name_number d.body.names name
@@ -149,7 +149,7 @@ keeps_init d e line name n h is f = by (init_fault d a n) refl
               (line ++ 10 ∷ [])));
         }
 
-    by : (o : Option LineRefusal) → init_fault d a n ≡ o → KeepsDraft d line e
+    by : (o : Option LineRefusal) → init_refusal d a n ≡ o → KeepsDraft d line e
     by None none = rw (← same_ok after e (sym (ap (λ (o : Option LineRefusal). unless o (taken after)) none)
         ∙ f)) (kept (no_fault d a n none))
     by (Some g) some = absurd (no_ok g e (sym (ap (λ (o : Option LineRefusal). unless o (taken after)) some)

@@ -17,7 +17,7 @@ use Rattle.common.specs.declared.limits.TheConstants.{MAX_CORES, MAX_EVENTS, MAX
 use Rattle.program.specs.Names.{name_of, name_text}
 use Rattle.program.specs.Lines.{load_line, write_line, compare_line}
 use Rattle.program.specs.Parts.{Small, Body, IsBody, op_count, addr_of, use_addr}
-use Rattle.program.specs.Steps.{names_with, name_number, with_op, write_op, op_fault, unless, core_step}
+use Rattle.program.specs.Steps.{names_with, name_number, with_op, write_op, op_refusal, unless, core_step}
 use Rattle.program.specs.Steps.{at_name, fence_step, load_step, write_step, compare_step}
 use Rattle.program.specs.Spelling.{body_text, core_text, op_text, line_text, name_at}
 use Rattle.program.specs.NameListLaws.{all_push}
@@ -55,7 +55,7 @@ room_in false true f g e = (refl, refl)
 room_in false false f g e = absurd cc
 
 -- where an operation may come there is a core, and room
-pub op_room : (p : Body) → op_fault p ≡ None → (0 < length p.cores) ×
+pub op_room : (p : Body) → op_refusal p ≡ None → (0 < length p.cores) ×
     (op_count p.cores < MAX_EVENTS)
 op_room p e =
     let r = room_in (length p.cores == 0) (nat_lt (op_count p.cores) MAX_EVENTS) L1 L3 e in
@@ -101,7 +101,7 @@ pub keeps_fence : (p q : Body) (line : List ℕ) → IsBody p → codes "fence" 
     ≡ Ok q → Keeps p line q
 unfolding fence_step
 keeps_fence p q line h is e =
-    let u = unless_ok (op_fault p) (done (record p { cores = with_op p.cores Fence })) q e in
+    let u = unless_ok (op_refusal p) (done (record p { cores = with_op p.cores Fence })) q e in
     let room = op_room p u.0 in
     let g = grown p.names p.names [] p.cores Fence h room.0 room.1 (sym (append-nil p.names)) refl
     h.few_names h.lawful h.distinct tt in
@@ -116,7 +116,7 @@ keeps_named : (p q : Body) (line : List ℕ) (name : Name) (op : Op) (spell : Na
     (spell name ≡ line)) → at_name p name r ≡ done q → Keeps p line q
 keeps_named p q line name op spell r h named address texts reads e =
     let more = names_with p.names name in
-    let u = unless_ok (op_fault p) (cond (nat_lt MAX_ADDRESSES (length more)) (Err L4) r) q e in
+    let u = unless_ok (op_refusal p) (cond (nat_lt MAX_ADDRESSES (length more)) (Err L4) r) q e in
     let room = op_room p u.0 in
     let few = guard_ok (nat_lt MAX_ADDRESSES (length more)) r L4 q u.1 in
     let is = reads few.1 in

@@ -38,7 +38,7 @@ pub record IsDraft (d : Draft) : Type 0 where
 abbrev pub drafted_program : Draft → Parts
 drafted_program d = parts_of d.body.names d.body.cores (filled (length d.body.names) d.init)
 
--- other names and operations, unless there is a fault
+-- other names and operations, unless the line is refused
 abbrev pub with_body : Draft → Result Body LineRefusal → Result Draft LineRefusal
 with_body d (Ok b) = Ok (record d { body = b })
 with_body d (Err f) = Err f
@@ -47,9 +47,9 @@ with_body d (Err f) = Err f
 abbrev pub body_step : Draft → Result Body LineRefusal → Result Draft LineRefusal
 body_step d r = if length d.init == 0 then with_body d r else Err L1
 
--- the fault of an initial value of address a, which is new where no operation uses its name
-abbrev pub init_fault : Draft → ℕ → ℕ → Option LineRefusal
-init_fault d a n =
+-- the refusal of an initial value of address a, which is new where no operation uses its name
+abbrev pub init_refusal : Draft → ℕ → ℕ → Option LineRefusal
+init_refusal d a n =
     if nat_le (2 ^ 32) n then Some L5
     else (if nat_le (length d.body.names) a then Some L6
     else (if nat_lt a (length d.init) then Some L7
@@ -57,7 +57,7 @@ init_fault d a n =
 
 -- an initial value of address a comes
 abbrev pub init_at : Draft → ℕ → ℕ → Result Draft LineRefusal
-init_at d a n = unless (init_fault d a n) (Ok (record d { init = filled a d.init ++ n ∷ [] }))
+init_at d a n = unless (init_refusal d a n) (Ok (record d { init = filled a d.init ++ n ∷ [] }))
 
 -- an initial value comes
 unfoldable pub init_step : Draft → Name → ℕ → Result Draft LineRefusal

@@ -53,7 +53,7 @@ compared_of name rest =
     (decimal_of (take at rest)))
     (position is_space rest)
 
--- a compare-and-swap: a name and two numbers, parted by one space
+-- a compare-and-swap: a name and two numbers, separated by one space
 unfoldable pub compare_of : List ℕ → Option Line
 compare_of rest =
     option_and_then (λ at.

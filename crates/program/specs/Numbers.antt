@@ -29,7 +29,7 @@ abbrev pub IsValue : Number → ℕ → Type 0
 IsValue (Value n) m = n ≡ m
 IsValue TooLarge m = 2 ^ 32 ≤ m
 
--- the same where there may be none
+-- a number that was read, where there is one, is m, or too large as m is
 abbrev pub AreValues : Option Number → Option ℕ → Type 0
 AreValues None None = ⊤
 AreValues None (Some m) = ⊥

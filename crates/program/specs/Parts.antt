@@ -13,7 +13,7 @@ pub record Body : Type 0 where
   pub names : List Name
   pub cores : List (List Op)
 
--- the same, and the initial value of each address
+-- the names in order of first use, the operations of each core in program order, and the initial value of each address
 pub record Parts : Type 0 where
   pub names : List Name
   pub cores : List (List Op)
@@ -67,12 +67,12 @@ abbrev pub use_addr : ℕ → Option ℕ → Option ℕ
 use_addr m None = Some m
 use_addr m (Some a) = if nat_lt a m then Some m else (if a == m then Some (m + 1) else None)
 
--- the same after all operations of a core
+-- how many addresses were used after all operations of a core
 abbrev pub use_ops : ℕ → List Op → Option ℕ
 use_ops m [] = Some m
 use_ops m (op ∷ ops) = option_and_then (λ k. use_ops k ops) (use_addr m (addr_of op))
 
--- the same after all cores; None where addresses aren't numbered in order of first use
+-- how many addresses were used after all cores; None where addresses aren't numbered in order of first use
 abbrev pub use_cores : ℕ → List (List Op) → Option ℕ
 use_cores m [] = Some m
 use_cores m (ops ∷ cores) = option_and_then (λ k. use_cores k cores) (use_ops m ops)
@@ -87,7 +87,7 @@ pub record IsBody (p : Body) : Type 0 where
   pub distinct : IsDistinct name_eq p.names
   pub numbered : use_cores 0 p.cores ≡ Some (length p.names)
 
--- the same of a program, with one initial value of 32 bits for each address
+-- such cores of a program, with one initial value of 32 bits for each address
 pub record IsProgram (p : Parts) : Type 0 where
   pub few_cores : length p.cores ≤ MAX_CORES
   pub few_ops : op_count p.cores ≤ MAX_EVENTS

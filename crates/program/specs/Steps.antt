@@ -38,12 +38,12 @@ write_op writes.Swap a n = Swap a n
 write_op writes.Add a n = Add a n
 
 -- whether an operation may come
-abbrev pub op_fault : Body → Option LineRefusal
-op_fault p =
+abbrev pub op_refusal : Body → Option LineRefusal
+op_refusal p =
     if length p.cores == 0 then Some L1
     else (if nat_lt (op_count p.cores) MAX_EVENTS then None else Some L3)
 
--- an answer, unless there is a fault before it
+-- an answer, unless a refusal comes before it
 abbrev pub unless : {S : Type 0} → Option LineRefusal → Result S LineRefusal → Result S LineRefusal
 unless None r = r
 unless (Some f) r = Err f
@@ -57,12 +57,12 @@ core_step p = if nat_lt (length p.cores) MAX_CORES then Ok (record p {
 
 -- a fence comes
 unfoldable pub fence_step : Body → Result Body LineRefusal
-fence_step p = unless (op_fault p) (Ok (record p { cores = with_op p.cores Fence }))
+fence_step p = unless (op_refusal p) (Ok (record p { cores = with_op p.cores Fence }))
 
 -- an operation with a name comes: its address is tested, and then there is this answer
 abbrev pub at_name : Body → Name → Result Body LineRefusal → Result Body LineRefusal
 at_name p name r =
-    unless (op_fault p)
+    unless (op_refusal p)
     (if nat_lt MAX_ADDRESSES (length (names_with p.names name)) then Err L4 else r)
 
 -- a load comes

@@ -78,7 +78,7 @@ impl Ops {
     }
 }
 
-/// The same operations, in memory of their own.
+/// A copy of these operations.
 pub(crate) fn copies_of(alloc: Global, cores: &[Ops]) -> Result<Vec<Ops>, OutOfMemory>
     ensures { IfOk result (λ copies. copies.items ≡ cores.now) }
 {

@@ -75,7 +75,7 @@ impl Program {
         Program { names, cores, init }
     }
 
-    /// The same program, in memory of its own. Fails only if out of memory.
+    /// A copy of the program. Fails only if out of memory.
     pub fn copy(&self, alloc: Global) -> Result<Program, OutOfMemory>
         ensures { IfOk result (λ p. p ≡ self.now) }
     {

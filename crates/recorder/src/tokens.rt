@@ -139,7 +139,7 @@ fn pull_parsed(alloc: Global, reader: &mut Reader<'_>) -> Result<Option<Parsed>,
     Ok(read_members.found(keys))
 }
 
-/// What a text in the simplest form has; nothing is told of other texts.
+/// What a text in the simplest form has; of other texts it answers nothing.
 pub(crate) fn parsed_by_tokens(alloc: Global, bytes: &[u8]) -> Result<Option<Parsed>, AllocError>
     ensures { IfOk result (λ o. IfSome o (λ q. IsParsedFrom bytes.now q)) }
 {

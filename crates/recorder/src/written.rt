@@ -75,7 +75,7 @@ fn take_found(alloc: Global, rest: &mut Cursor<'_>) -> Result<Option<Parsed>, Al
     }))
 }
 
-/// What a text in the layout of `write_recording` has, within the limits; nothing is told of other texts.
+/// What a text in the layout of `write_recording` has, within the limits; of other texts it answers nothing.
 pub(crate) fn written(alloc: Global, bytes: &[u8]) -> Result<Option<Parsed>, AllocError>
     ensures { IfOk result (λ o. IfSome o (λ q. IsParsedFrom bytes.now q)) }
 {

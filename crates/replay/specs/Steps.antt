@@ -74,7 +74,7 @@ pub record Replaying : Type 0 where
   pub machine : Configuration
   pub steps : List Step
 
--- the same after more steps
+-- a machine after more steps, and all steps that it has taken
 abbrev pub with_steps : Replaying → List Step → Replaying
 with_steps r steps = record {
   machine = record r.machine { state = state_after r.machine steps };

@@ -227,8 +227,8 @@ pub fn put_numbers(out: &mut Vec<u8>, numbers: &[u16]) -> Result<(), OutOfMemory
     }
 }
 
-/// The same as `put_numbers`, by texts that were made before where they are of all numbers. Fails only if out of
-/// memory.
+/// Adds a row of numbers as `put_numbers` does, by texts that were made before where they are of all numbers. Fails
+/// only if out of memory.
 pub fn put_row(out: &mut Vec<u8>, numbers: &[u16], texts: &[NumberText]) -> Result<(), OutOfMemory>
     requires { AreTexts texts.now }
     ensures { OnOk result (out.new.items ≡ out.old.items ++ numbers_text numbers.now) }

@@ -14,7 +14,7 @@ use Rattle.trials.specs.LegalDesk.{saw_claimed, saw_filed, Was}
 abbrev pub IsDeskSeatOf : Desk → DeskSeat → Type 0
 IsDeskSeatOf d s = s.seat.table_id ≡ (arc_value d.table).shared.table_id
 
--- the same, where the desk is of this campaign
+-- the seat is of the desk, which is of this campaign
 abbrev pub SitsAt : Desk → Plan → DeskSeat → Type 0
 SitsAt d p s = IsDeskSeatOf d s × (s.seat.me.0.campaign ≡ p)
 
@@ -24,7 +24,7 @@ IsLook v k Open w = (w ≡ v) × (Contains v.share k → ⊥) × (Contains v.see
 IsLook v k Claimed w = (w ≡ saw_claimed v k) × (Contains v.filed k → ⊥) × (Contains v.read k → ⊥)
 IsLook v k (Filed code) w = (w ≡ saw_filed v k) × IsCode v.campaign k code
 
--- the same of the word
+-- what a look at a word is: at least what was claimed, filed or seen
 abbrev pub LoadsWord : SeatKnowledge → ℕ → ℕ → SeatKnowledge → Type 0
 LoadsWord v k n w = Was v k n × (n ≡ 0 → w ≡ v) × (n ≡ 1 → w ≡ saw_claimed v k)
     × (n ≢ 0 → n ≢ 1 → (w ≡ saw_filed v k) × IsCode v.campaign k n)

@@ -1,5 +1,5 @@
 //! Single JSON values of a recording, read from the tokens of its text. Where a value is not in its
-//! simplest form, nothing is told of it.
+//! simplest form, they answer nothing.
 
 ghost use Rattle.std.specs.Prelude.{◌≡◌, ℕ, ◌∷◌, suc, IfSome, IsTrue};
 ghost use Rattle.json.specs.Token.{begin_array, begin_object};

@@ -1,5 +1,5 @@
-//! Lists of a recording, read from a text in the layout of `write_recording`. Nothing is told of a list that is
-//! longer than a recording's may be.
+//! Lists of a recording, read from a text in the layout of `write_recording`. A list that is longer
+//! than a recording's may be gives nothing.
 
 ghost use Rattle.std.specs.Prelude.{IfOk, IfSome, map};
 ghost use Rattle.std.specs.List.{AllByRecursion};
