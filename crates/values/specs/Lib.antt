@@ -1,0 +1,2 @@
+pub mod Final
+pub mod Values
