@@ -1,1 +1,4 @@
 pub mod Unsourced
+pub mod Lawful
+pub mod Walks
+pub mod Known

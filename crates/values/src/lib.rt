@@ -1,7 +1,10 @@
 //! The values of a run alone, without the sources of its reads and without write lists.
 #![tactic(auto)]
 
+mod numbers;
+mod refusal;
+mod rules;
 mod values;
 
-pub use recording::Event;
+pub use recording::{Event, RecError};
 pub use values::Values;
