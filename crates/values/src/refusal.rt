@@ -26,8 +26,8 @@ impl Values {
         true
     }
 
-    /// Whether they are within the limits, each address that is used has an initial value, and each that has one may
-    /// have a final value that is known.
+    /// Whether they are within the limits, each event has a place for its source, each address that is used has an
+    /// initial value, and each that has one has a place for its final value.
     fn is_within_limits(&self) -> bool
         requires { event_count (events_alone self.now) ≤ MAX_EVENTS }
         ensures { IsTrue result ↔ AreWithinLimits self.now }
@@ -38,15 +38,18 @@ impl Values {
         if self.init().len() > MAX_ADDRESSES {
             return false;
         }
+        if self.sources().len() != self.len() {
+            return false;
+        }
         if self.final_values().len() != self.init().len() {
             return false;
         }
         self.has_all_initial_values()
     }
 
-    /// The least event whose known source is no write to the address that it reads.
+    /// The least event that does not read, or can't have its source, though this is known.
     fn first_without_source(&self) -> Option<EventId>
-        requires { event_count (events_alone self.now) ≤ MAX_EVENTS }
+        requires { AreWithinLimits self.now }
         ensures { MatchOption result ((e : ℕ) → HasKnownSource self.now e)
             (λ e. IsLeastWithout (HasKnownSource self.now) e) }
     {
@@ -58,9 +61,9 @@ impl Values {
         None
     }
 
-    /// The least event whose value read is not that of its known source.
+    /// The least event whose value read is not that of its source, which is known.
     fn first_without_value(&self) -> Option<EventId>
-        requires { event_count (events_alone self.now) ≤ MAX_EVENTS }
+        requires { AreWithinLimits self.now }
         ensures { MatchOption result ((e : ℕ) → HasKnownValue self.now e)
             (λ e. IsLeastWithout (HasKnownValue self.now) e) }
     {
@@ -88,9 +91,9 @@ impl Values {
         None
     }
 
-    /// Why no recording has these values and known sources, whatever the other sources: the first refusal of the limits,
-    /// of the least event whose known source is no write to its address, of the least event that read another value than
-    /// its known source gives. None where no rule is broken.
+    /// Why no recording can have these values and sources: the first refusal of the limits, of the least event that can't
+    /// have the source that is known of it, of the least event that read another value than that source gives. None
+    /// where no rule is broken.
     pub fn refusal(&self) -> Option<RecError>
         ensures { MatchOption result (AreLawful self.now) (λ e. AreRefused self.now e) }
     {

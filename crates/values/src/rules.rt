@@ -30,20 +30,20 @@ impl Values {
         is_below(event.read_address(), count) && is_below(event.written_address(), count)
     }
 
-    /// Whether the source of an event, where it is known to be a write, writes the address that is read.
+    /// Whether an event reads, and may have its source, where this is known.
     pub(crate) fn has_known_source(&self, number: EventId) -> bool
         ensures { IsTrue result ↔ HasKnownSource self.now number }
     {
-        let Some(address) = self.event(number).read_address() else {
-            return true;
-        };
         let Some(source) = self.source(number) else {
             return true;
         };
-        let Some(write) = source else {
-            return true;
+        let Some(address) = self.event(number).read_address() else {
+            return false;
         };
-        self.event(write).writes_to(address)
+        match source {
+            Some(write) => self.event(write).writes_to(address),
+            None => true,
+        }
     }
 
     /// The initial value of an address; 0 where there is none.

@@ -3,5 +3,5 @@ use Rattle.values.proofs.Lawful.{sources_all}
 use Rattle.values.proofs.values.Values.first_without_source.Goals as goal
 
 pub returns : goal.returns
-returns c = sources_all c.args.self.now (λ e at. c.loop-number.invariant e
+returns c = sources_all c.args.self.now c.requires (λ e at. c.loop-number.invariant e
     (omega (arith, at, c.len-number-end.ensures, c.loop-number-test.false)))

@@ -18,6 +18,7 @@ returns c =
         few_events = c.requires;
         few_addresses = omega (arith, values, c.if-init-gt-MAX_ADDRESSES.false);
         addresses = c.has_all_initial_values.ensures.0 yes;
+        sources = ap (λ os. length os) (sym c.sources.ensures) ∙ (c.if-sources-len.false ∙ c.len.ensures);
         final_values = sym ends ∙ (c.if-final_values-init.false ∙ again);
       },
       λ within. c.has_all_initial_values.ensures.1 within.addresses,
