@@ -1,0 +1,204 @@
+//! The items of the lists of values, and what single JSON values give.
+
+ghost use Rattle.std.specs.Prelude.{◌≡◌, option_map};
+ghost use Rattle.serde_json.specs.View.{view};
+ghost use Rattle.serde_json.specs.Find.{as_object};
+ghost use Rattle.recorder.specs.Reading.{at_key, count_members, value_in};
+ghost use Rattle.recorder.specs.Clipped.{clipped_number};
+ghost use Rattle.recorder.specs.Pulled.{clipped_source};
+ghost use Rattle.values_text.specs.Clipped.{clipped_known};
+
+use common::{Addr, EventId};
+use serde_json::Value;
+use values::Event;
+
+/// An event, and the source that is known of it, if one is.
+pub(crate) type KnownEvent = (Event, Option<Option<EventId>>);
+
+/// An item of a list: an event, an initial value, or a final value that may be known.
+pub(crate) trait Item: Drop + Sized {
+    ghost use Rattle.std.specs.Prelude.{◌≡◌, Option};
+    ghost use Rattle.serde_json.specs.Data.{Data};
+    ghost use Rattle.serde_json.specs.View.{view};
+
+    /// What is held of what a value gives.
+    ghost held: { Data → Option Self };
+
+    /// The item that a value gives.
+    fn read(value: &Value) -> Option<Self>
+        ensures { result ≡ held (view value.now) };
+}
+
+impl Item for KnownEvent {
+    ghost use Rattle.values_text.specs.Clipped.{clipped_known};
+
+    ghost held = { clipped_known };
+
+    fn read(value: &Value) -> Option<KnownEvent> {
+        known_event_in(value)
+    }
+}
+
+impl Item for u32 {
+    ghost use Rattle.recorder.specs.Reading.{value_in};
+
+    ghost held = { value_in };
+
+    fn read(value: &Value) -> Option<u32> {
+        u32::try_from(value.as_u64()?).ok()
+    }
+}
+
+impl Item for Option<u32> {
+    ghost use Rattle.values_text.specs.Reading.{final_in};
+
+    ghost held = { final_in };
+
+    fn read(value: &Value) -> Option<Option<u32>> {
+        if value.is_null() {
+            return Some(None);
+        }
+        let known = u32::read(value)?;
+        Some(Some(known))
+    }
+}
+
+fn number_in(value: &Value) -> Option<u16>
+    ensures { result ≡ clipped_number (view value.now) }
+{
+    let n = value.as_u64()?;
+    Some(u16::try_from(n).unwrap_or(u16::MAX))
+}
+
+fn source_in(value: &Value) -> Option<Option<EventId>>
+    ensures { result ≡ clipped_source (view value.now) }
+{
+    if value.is_null() {
+        return Some(None);
+    }
+    let source = number_in(value)?;
+    Some(Some(source))
+}
+
+fn number_at(value: &Value, key: &str) -> Option<u16>
+    ensures { result ≡ at_key clipped_number key.now (view value.now) }
+{
+    number_in(value.get(key)?)
+}
+
+fn value_at(value: &Value, key: &str) -> Option<u32>
+    ensures { result ≡ at_key value_in key.now (view value.now) }
+{
+    u32::read(value.get(key)?)
+}
+
+fn source_at(value: &Value, key: &str) -> Option<Option<EventId>>
+    ensures { result ≡ at_key clipped_source key.now (view value.now) }
+{
+    source_in(value.get(key)?)
+}
+
+/// How many keys an object has.
+#[tactic(auto, using(crate::proofs::Members::count_members_length))]
+pub(crate) fn keys_of(value: &Value) -> Option<usize>
+    ensures { result ≡ option_map count_members (as_object (view value.now)) }
+{
+    let members = value.as_object()?;
+    Some(members.len())
+}
+
+/// What the keys of an event give.
+#[derive(Drop)]
+struct Fields {
+    a: Option<Addr>,
+    r: Option<u32>,
+    s: Option<Option<EventId>>,
+    w: Option<u32>,
+}
+
+impl Fields {
+    ghost use Rattle.std.specs.Prelude.{◌≡◌};
+    ghost use Rattle.values_text.specs.Reading.{known_event};
+
+    /// The event of a kind with this many keys.
+    #[tactic(auto, unfolding(crate::specs::Reading::known_event))]
+    fn event(&self, kind: &str, keys: usize) -> Option<KnownEvent>
+        ensures { result ≡ known_event kind.now keys self.now.a self.now.r self.now.s self.now.w }
+    {
+        match (kind, keys) {
+            ("L", 4) => Some((
+                Event::L {
+                    a: self.a?,
+                    r: self.r?,
+                    s: self.s?,
+                },
+                self.s,
+            )),
+            ("L", 3) => Some((
+                Event::L {
+                    a: self.a?,
+                    r: self.r?,
+                    s: None,
+                },
+                None,
+            )),
+            ("S", 3) => Some((
+                Event::S {
+                    a: self.a?,
+                    w: self.w?,
+                },
+                None,
+            )),
+            ("R", 5) => Some((
+                Event::R {
+                    a: self.a?,
+                    r: self.r?,
+                    s: self.s?,
+                    w: self.w?,
+                },
+                self.s,
+            )),
+            ("R", 4) => Some((
+                Event::R {
+                    a: self.a?,
+                    r: self.r?,
+                    s: None,
+                    w: self.w?,
+                },
+                None,
+            )),
+            ("C", 4) => Some((
+                Event::C {
+                    a: self.a?,
+                    r: self.r?,
+                    s: self.s?,
+                },
+                self.s,
+            )),
+            ("C", 3) => Some((
+                Event::C {
+                    a: self.a?,
+                    r: self.r?,
+                    s: None,
+                },
+                None,
+            )),
+            ("F", 1) => Some((Event::F, None)),
+            _ => None,
+        }
+    }
+}
+
+fn known_event_in(value: &Value) -> Option<KnownEvent>
+    ensures { result ≡ clipped_known (view value.now) }
+{
+    let keys = keys_of(value)?;
+    let kind = value.get("k")?.as_str()?;
+    let fields = Fields {
+        a: number_at(value, "a"),
+        r: value_at(value, "r"),
+        s: source_at(value, "s"),
+        w: value_at(value, "w"),
+    };
+    fields.event(kind, keys)
+}
