@@ -1,3 +1,4 @@
 pub mod Reading
+pub mod Text
 pub mod Clipped
 pub mod Parsed

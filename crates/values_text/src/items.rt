@@ -8,8 +8,10 @@ ghost use Rattle.recorder.specs.Clipped.{clipped_number};
 ghost use Rattle.recorder.specs.Pulled.{clipped_source};
 ghost use Rattle.values_text.specs.Clipped.{clipped_known};
 
+use crate::members::event_members;
 use common::{Addr, EventId};
 use serde_json::Value;
+use std::alloc::{AllocError, Global};
 use values::Event;
 
 /// An event, and the source that is known of it, if one is.
@@ -17,42 +19,78 @@ pub(crate) type KnownEvent = (Event, Option<Option<EventId>>);
 
 /// An item of a list: an event, an initial value, or a final value that may be known.
 pub(crate) trait Item: Drop + Sized {
-    ghost use Rattle.std.specs.Prelude.{◌≡◌, Option};
+    ghost use Rattle.std.specs.Prelude.{◌≡◌, Option, IfOk};
     ghost use Rattle.serde_json.specs.Data.{Data};
     ghost use Rattle.serde_json.specs.View.{view};
+
+    /// The value that is written of it.
+    ghost datum: { Self → Data };
 
     /// What is held of what a value gives.
     ghost held: { Data → Option Self };
 
+    /// Each number of it fits.
+    ghost fits: { Self → Type 0 };
+
     /// The item that a value gives.
     fn read(value: &Value) -> Option<Self>
         ensures { result ≡ held (view value.now) };
+
+    /// The value of the item.
+    fn value(&self, alloc: Global) -> Result<Value, AllocError>
+        ensures value { IfOk result (λ v. view v ≡ datum self.now) }
+        ensures fits { IfOk result (λ _. fits self.now) };
 }
 
 impl Item for KnownEvent {
     ghost use Rattle.values_text.specs.Clipped.{clipped_known};
+    ghost use Rattle.values_text.specs.Text.{known_data, IsFittingKnown};
+
+    ghost datum = { known_data };
 
     ghost held = { clipped_known };
 
+    ghost fits = { IsFittingKnown };
+
     fn read(value: &Value) -> Option<KnownEvent> {
         known_event_in(value)
+    }
+
+    fn value(&self, alloc: Global) -> Result<Value, AllocError> {
+        let members = event_members(alloc, &self.0, self.1)?;
+        Ok(Value::Object(members))
     }
 }
 
 impl Item for u32 {
     ghost use Rattle.recorder.specs.Reading.{value_in};
+    ghost use Rattle.recorder.specs.Text.{number_data};
+    ghost use Rattle.recorder.specs.Written.{IsWord};
+
+    ghost datum = { number_data };
 
     ghost held = { value_in };
 
+    ghost fits = { IsWord };
+
     fn read(value: &Value) -> Option<u32> {
         u32::try_from(value.as_u64()?).ok()
+    }
+
+    fn value(&self, _alloc: Global) -> Result<Value, AllocError> {
+        Ok(Value::from(*self))
     }
 }
 
 impl Item for Option<u32> {
     ghost use Rattle.values_text.specs.Reading.{final_in};
+    ghost use Rattle.values_text.specs.Text.{final_data, IsFittingFinal};
+
+    ghost datum = { final_data };
 
     ghost held = { final_in };
+
+    ghost fits = { IsFittingFinal };
 
     fn read(value: &Value) -> Option<Option<u32>> {
         if value.is_null() {
@@ -60,6 +98,13 @@ impl Item for Option<u32> {
         }
         let known = u32::read(value)?;
         Some(Some(known))
+    }
+
+    fn value(&self, _alloc: Global) -> Result<Value, AllocError> {
+        match self {
+            Some(known) => Ok(Value::from(*known)),
+            None => Ok(Value::Null),
+        }
     }
 }
 
@@ -99,7 +144,7 @@ fn source_at(value: &Value, key: &str) -> Option<Option<EventId>>
 }
 
 /// How many keys an object has.
-#[tactic(auto, using(crate::proofs::Members::count_members_length))]
+#[tactic(auto, using(crate::proofs::Counted::count_members_length))]
 pub(crate) fn keys_of(value: &Value) -> Option<usize>
     ensures { result ≡ option_map count_members (as_object (view value.now)) }
 {

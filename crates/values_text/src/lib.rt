@@ -2,8 +2,12 @@
 #![tactic(auto)]
 
 mod items;
+mod known;
+mod members;
 mod reading;
 mod shape;
+mod writing;
 
 pub use reading::read_values;
 pub use values::{RecError, Values};
+pub use writing::write_values;
