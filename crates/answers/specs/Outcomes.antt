@@ -1,12 +1,10 @@
 -- What is answered of the outcomes of a program.
 use Rattle.std.specs.Prelude.{◌≡◌, ◌⊎◌, ◌==◌, ◌∷◌, ◌++◌, [], ℕ, Bool, true, false, not, if◌then◌else◌, List, codes}
-use Rattle.std.specs.List.{IsDistinct}
-use Rattle.std.specs.List.Sorted.{IsSorted}
 use Rattle.program.specs.Parts.{Parts}
 use Rattle.outcomes.specs.declared.observed.Observation.{Observation}
-use Rattle.outcomes.specs.Listed.{compared, same_outcome}
+use Rattle.outcomes.specs.Listed.{AreListed}
 use Rattle.outcomes.specs.Observed.{explains}
-use Rattle.outcomes.specs.Outcome.{AreOutcomes, Outcome}
+use Rattle.outcomes.specs.Outcome.{Outcome}
 use Rattle.outcomes.specs.Reachable.{HasMore}
 use Rattle.outcome_texts.specs.OutcomeText.{outcomes_text}
 use Rattle.outcome_texts.specs.Report.{forbidden_count, report_text}
@@ -16,12 +14,6 @@ use Rattle.verdicts.specs.declared.outcome.Outcome.{Outcome as HowItComesOut}
 use Rattle.verdicts.specs.declared.outcome.Outcome.TheVariants.{Done, Unfinished, Violation}
 use Rattle.answers.specs.declared.outcome_answers.Condition.{Condition}
 use Rattle.answers.specs.declared.outcome_answers.Condition.TheVariants.{Exists, Never}
-
--- the outcomes that TSO allows of a program, each once, in dictionary order
-pub record AreListed (p : Parts) (os : List Outcome) : Type 0 where
-  pub outcomes : AreOutcomes p os
-  pub sorted : IsSorted compared os
-  pub once : IsDistinct same_outcome os
 
 -- an answer of this text, which comes out so
 pub record IsText (outcome : HowItComesOut) (text : List ℕ) (answer : Answer) : Type 0 where

@@ -117,7 +117,7 @@ all_over p r each c = elim (cases_lt c (length p)) [
 -- what moves lead to is among the situations
 all_there : (p : Parts) (rows : List Situation) → AreReachable p rows → (r : Situation)
     → Leads p.cores (beginning p) r → Contains rows r
-all_there p rows all r here = all.begins
+all_there p rows all r here = there_at rows 0 (beginning p) all.order.first
 all_there p rows all r (further s t move c led is) =
     let there = all_there p rows all s led in
     all.closed there.0 s there.1 move c r (subst (λ (z : Situation). moved p.cores z move c ≡ Some r) (sym there.2) is)

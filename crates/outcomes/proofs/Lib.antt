@@ -12,3 +12,5 @@ pub mod Ends
 pub mod Allowed
 pub mod Machine
 pub mod Reached
+pub mod Ways
+pub mod Driven

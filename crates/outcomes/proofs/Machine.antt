@@ -1,7 +1,7 @@
 -- Whatever moves lead to, the machine does.
 use Rattle.std.proofs.Common.{◌≡◌, ◌<◌, ◌≤◌, ◌+◌, ◌==◌, inl, inr, ℕ, zero, suc, Bool, true, false, cond, Option}
 use Rattle.std.proofs.Common.{Some, None, Result, Ok, Err, List, [], ◌∷◌, ◌++◌, length, get_or, slice_get}
-use Rattle.std.proofs.Common.{drop, arith, refl, sym, ap, subst, ◌∙◌, get_or-set_same}
+use Rattle.std.proofs.Common.{◌-◌, option_map, replicate, drop, arith, refl, sym, ap, subst, ◌∙◌, get_or-set_same}
 use Rattle.std.specs.List.{All}
 use Rattle.std.proofs.lemmas.Bool.{cases_lt, lt-ltb}
 use Rattle.std.proofs.lemmas.List.{set-get_or}
@@ -10,6 +10,7 @@ use Rattle.program.specs.declared.op.Op.{Op}
 use Rattle.program.specs.declared.op.Op.TheVariants.{St, Ld, Fence, Swap, Add, Cas}
 use Rattle.program.specs.Parts.{IsWithin}
 use Rattle.recording.specs.PlacedLaws.{placed_at}
+use Rattle.recording.specs.declared.event.Event.TheVariants.{R, C}
 use Rattle.recording.specs.Event.{written_address}
 use Rattle.write_buffer.specs.declared.entry.Entry.{Entry}
 use Rattle.write_buffer.specs.Buffer.{youngest}
@@ -35,7 +36,7 @@ use Rattle.machine.proofs.InOrder.{IsInOrder}
 use Rattle.machine.proofs.Rows.{IsRmw, IsLook, stored_state, loaded_state, rmw_state, allowed_ok, swap_is}
 use Rattle.machine.proofs.DrainEvents.{drained_state}
 use Rattle.machine.proofs.ExecuteEvents.{IsNext, next_placed, next_event}
-use Rattle.replay.specs.Steps.{get_to_read, get_to_write}
+use Rattle.replay.specs.Steps.{execute_to, get_to_read, get_to_write, perform}
 use Rattle.replay.proofs.OrderlyRuns.{StaysOrderly}
 use Rattle.replay.proofs.StepLists.{StepsLead, is_at, fetch_read, fetch_write, write_made}
 use Rattle.outcomes.specs.declared.moves.Move.{Move}
@@ -44,8 +45,11 @@ use Rattle.outcomes.specs.Situation.{Situation, stores_first, between, ops_of, w
 use Rattle.outcomes.specs.Situation.{moved, none_waits, drained_by}
 use Rattle.outcomes.specs.Reachable.{Leads, here, further}
 use Rattle.outcomes.specs.Situation as row
-use Rattle.outcomes.proofs.Stores.{entries, entries_few, length_between, no_entries, none_found, a_store, store_stands}
-use Rattle.outcomes.proofs.Follow.{Follows, follow_store}
+use Rattle.outcomes.specs.Witness.{op_moved}
+use Rattle.outcomes.specs.declared.ops.Waiting.{Waiting}
+use Rattle.outcomes.specs.Follow.{entries, Follows}
+use Rattle.outcomes.proofs.Stores.{found_oldest, entries_few, length_between, no_entries, none_found, a_store, store_stands}
+use Rattle.outcomes.proofs.Follow.{follow_store}
 use Rattle.outcomes.proofs.Grown.{moved_past}
 use Rattle.outcomes.proofs.Turns.{beside, look_turn, rmw_turn, drain_turn, transact_turn}
 
@@ -93,12 +97,29 @@ module _ (cs : List (List Op)) (init : List ℕ) (capacity : ℕ)
     pub is_run : IsRun state
     pub follows : Follows cs (length init) state r
 
+  -- steps lead on from a state to one that says the same as the situation
+  pub record IsMade (s : State) (steps : List Step) (q : Situation) : Type 0 where
+    pub state : State
+    pub leads : run cs capacity fault.None s steps ≡ state
+    pub follows : Follows cs (length init) state q
+
+  -- after other steps
+  made_after : (s t : State) (xs ys : List Step) (q : Situation) → run cs capacity fault.None s xs ≡ t
+      → IsMade t ys q → IsMade s (xs ++ ys) q
+  made_after s t xs ys q to made = record {
+    state = made.state;
+    leads = run_append cs capacity fault.None s xs ys
+        ∙ (ap (λ (z : State). run cs capacity fault.None z ys) to ∙ made.leads);
+    follows = made.follows;
+  }
+
   -- A core executes the stores at its place
 
   pub catch_up : (c : ℕ) → c < length cs → (j : ℕ) (s : State) (r : Situation) → IsRun s
       → Follows cs (length init) s r → row.place_of r c ≡ place_of s c + j
       → (t : State) × IsRun t × Follows cs (length init) t r × (place_of t c ≡ row.place_of r c)
-  catch_up c core zero s r h f at = (s, h, f, omega (arith, at))
+      × (run cs capacity fault.None s (replicate j (steps.Exec c)) ≡ t)
+  catch_up c core zero s r h f at = (s, h, f, omega (arith, at), refl)
   catch_up c core (suc j) s r h f at =
       let ops : List Op = ops_of cs c in
       let k : ℕ = place_of s c in
@@ -126,8 +147,15 @@ module _ (cs : List (List Op)) (init : List ℕ) (capacity : ℕ)
       let next : Follows cs (length init) t r =
       follow_store f c core stands.0 places store.0 store.1 b t (omega (arith, core, g.steady.buffers)) store.2 refl
       refl refl refl refl in
-      catch_up c core j t r (step_run s t (steps.Exec c) h took) next
-      (omega (arith, at, get_or-set_same s.places c (k + 1) 0 places))
+      let rest = catch_up c core j t r (step_run s t (steps.Exec c) h took) next
+      (omega (arith, at, get_or-set_same s.places c (k + 1) 0 places)) in (
+        rest.0,
+        rest.1,
+        rest.2,
+        rest.3,
+        ap (λ (z : Result State Blocked). run cs capacity fault.None (after s z) (replicate j (steps.Exec c))) took
+            ∙ rest.4,
+      )
 
   -- Lines
 
@@ -176,6 +204,7 @@ module _ (cs : List (List Op)) (init : List ℕ) (capacity : ℕ)
       pub read_line : (caches : moesi.CacheState) × IsRun (with_caches s caches)
           × Follows cs (length init) (with_caches s caches) r
           × ((what : ℕ × Option ℕ) × (looked_up fault.None (with_caches s caches) c a ≡ Ok what))
+          × (run cs capacity fault.None s (get_to_read s c a (youngest (buffer_of s c) a)) ≡ with_caches s caches)
       read_line =
           let o : Option Entry = youngest (buffer_of s c) a in
           let got = fetch_read cs (length init) capacity s (stays s h) c a core inside o in (
@@ -183,11 +212,13 @@ module _ (cs : List (List Op)) (init : List ℕ) (capacity : ℕ)
             steps_run s (with_caches s got.0) (get_to_read s c a o) h got.1.0.1,
             read_follow o (with_caches s got.0) got.1.0,
             got.2,
+            got.1.0.1,
           )
 
       -- a core gets a line to write it
       pub write_line : (caches : moesi.CacheState) × IsRun (with_caches s caches)
           × Follows cs (length init) (with_caches s caches) r × (is_exclusive (moesi.line_of caches c a) ≡ true)
+          × (run cs capacity fault.None s (get_to_write s c a) ≡ with_caches s caches)
       write_line =
           let got = fetch_write cs (length init) capacity s (stays s h) c a core inside in (
             got.0,
@@ -195,6 +226,7 @@ module _ (cs : List (List Op)) (init : List ℕ) (capacity : ℕ)
             follow_if (is_exclusive (moesi.line_of s.caches c a)) (steps.GetM c a) (with_caches s got.0) getm_follow
                 got.1.0,
             got.2,
+            got.1.0.1,
           )
 
     -- An operation of the core
@@ -213,10 +245,11 @@ module _ (cs : List (List Op)) (init : List ℕ) (capacity : ℕ)
 
       -- it leads to where the move leads
       turned : (t : State) → exec capacity fault.None s c (first_event cs c + place_of s c) op ≡ Ok t
-          → (u : Situation) × (moved cs r Exec c ≡ Some u) × Follows cs (length init) t u → IsSeen q
+          → (u : Situation) × (moved cs r Exec c ≡ Some u) × Follows cs (length init) t u
+          → IsMade s (steps.Exec c ∷ []) q
       turned t took turn = record {
         state = t;
-        is_run = step_run s t (steps.Exec c) h (step_is ∙ took);
+        leads = ap (after s) (step_is ∙ took);
         follows = subst (Follows cs (length init) t) (same_Some turn.0 q (sym turn.1 ∙ is)) turn.2;
       }
 
@@ -240,7 +273,7 @@ module _ (cs : List (List Op)) (init : List ℕ) (capacity : ℕ)
       -- an event that writes nothing
       looks : (what : ℕ × Option ℕ) → IsLook fault.None s c op what
           → exec capacity fault.None s c (first_event cs c + place_of s c) op
-          ≡ Ok (loaded_state s c (first_event cs c + place_of s c) what) → IsSeen q
+          ≡ Ok (loaded_state s c (first_event cs c + place_of s c) what) → IsMade s (steps.Exec c ∷ []) q
       looks what look took =
           turned (loaded_state s c (first_event cs c + place_of s c) what) took
           (look_turn f (in_order s h) c (first_event cs c + place_of s c) core next.core
@@ -252,7 +285,7 @@ module _ (cs : List (List Op)) (init : List ℕ) (capacity : ℕ)
       modifies : (a : ℕ) (caches : moesi.CacheState) → IsRmw op (line_copy s c a) a → buffer_of s c ≡ []
           → moesi.write s.caches c a (rmw_value s c op a) (first_event cs c + place_of s c) ≡ Ok caches
           → exec capacity fault.None s c (first_event cs c + place_of s c) op
-          ≡ Ok (rmw_state s caches c (first_event cs c + place_of s c) a) → IsSeen q
+          ≡ Ok (rmw_state s caches c (first_event cs c + place_of s c) a) → IsMade s (steps.Exec c ∷ []) q
       modifies a caches rmw empty wrote took =
           turned (rmw_state s caches c (first_event cs c + place_of s c) a) took
           (rmw_turn f (in_order s h) c (first_event cs c + place_of s c) core next.core
@@ -288,13 +321,15 @@ module _ (cs : List (List Op)) (init : List ℕ) (capacity : ℕ)
           (ap (λ (z : ℕ × Op). op_reads z.1) (next_placed next) ∙ reads)
 
       -- a load
-      load_seen : (a : ℕ) → op ≡ Ld a → IsSeen q
-      load_seen a load =
+      load_made : (a : ℕ) → op ≡ Ld a
+          → IsMade s (get_to_read s c a (youngest (buffer_of s c) a) ++ steps.Exec c ∷ []) q
+      load_made a load =
           let reads : op_reads op ≡ Some a = ap op_reads load in
           let got = read_line s r h f c core a (line_there a reads) in
           let t : State = with_caches s got.0 in
           let b : ℕ = first_event cs c + place_of s c in
-          looks t r got.1 got.2 c core q op (next_with got.0 op next) is got.3.0
+          made_after s t (get_to_read s c a (youngest (buffer_of s c) a)) (steps.Exec c ∷ []) q got.4
+          (looks t r got.1 got.2 c core q op (next_with got.0 op next) is got.3.0
           (record {
             store = ap is_st load;
             address = ap (λ (o : Op). written_address (event_of o got.3.0)) load;
@@ -303,11 +338,11 @@ module _ (cs : List (List Op)) (init : List ℕ) (capacity : ℕ)
                 (same_Some a k (sym reads ∙ other)) got.3.1);
           })
           (ap (exec capacity fault.None t c b) load
-          ∙ ap (or_blocked B4 (λ what. advanced (performed (with_read t b what) b) c)) got.3.1)
+          ∙ ap (or_blocked B4 (λ what. advanced (performed (with_read t b what) b) c)) got.3.1))
 
       -- a fence
-      fence_seen : op ≡ Fence → buffer_of s c ≡ [] → IsSeen q
-      fence_seen fence empty =
+      fence_made : op ≡ Fence → buffer_of s c ≡ [] → IsMade s (steps.Exec c ∷ []) q
+      fence_made fence empty =
           let b : ℕ = first_event cs c + place_of s c in
           let what : ℕ × Option ℕ = get_or s.reads b (0, None) in
           let same : loaded_state s c b what ≡ advanced (performed s b) c =
@@ -325,30 +360,34 @@ module _ (cs : List (List Op)) (init : List ℕ) (capacity : ℕ)
           ∙ ap (λ (z : State). Ok z) (sym same)))
 
       -- a swap or an add, which write
-      writes_seen : (a : ℕ) → op_reads op ≡ Some a → is_st op ≡ false → buffer_of s c ≡ []
+      writes_made : (a : ℕ) → op_reads op ≡ Some a → is_st op ≡ false → buffer_of s c ≡ []
           → ((d : ℕ × Option ℕ) → written_address (event_of op d) ≡ Some a)
           → ((t : State) → exec capacity fault.None t c (first_event cs c + place_of s c) op
-          ≡ read_modify_written fault.None t c (first_event cs c + place_of s c) op a) → IsSeen q
-      writes_seen a reads store empty writes does =
+          ≡ read_modify_written fault.None t c (first_event cs c + place_of s c) op a)
+          → IsMade s (get_to_write s c a ++ steps.Exec c ∷ []) q
+      writes_made a reads store empty writes does =
           let got = write_line s r h f c core a (line_there a reads) in
           let t : State = with_caches s got.0 in
           let b : ℕ = first_event cs c + place_of s c in
           let wrote = write_made got.0 c a (rmw_value t c op a) b got.3 in
-          modifies t r got.1 got.2 c core q op (next_with got.0 op next) is a wrote.0
+          made_after s t (get_to_write s c a) (steps.Exec c ∷ []) q got.4
+          (modifies t r got.1 got.2 c core q op (next_with got.0 op next) is a wrote.0
           (record { store = store; reads = reads; address = writes (line_copy t c a) }) empty wrote.1
-          (does t ∙ rmw_made t c b a op wrote.0 empty wrote.1)
+          (does t ∙ rmw_made t c b a op wrote.0 empty wrote.1))
 
       -- a compare-and-swap, which writes or only reads
-      cas_seen : (a x v : ℕ) → op ≡ Cas a x v → buffer_of s c ≡ [] → IsSeen q
-      cas_seen a x v cas empty =
+      cas_made : (a x v : ℕ) → op ≡ Cas a x v → buffer_of s c ≡ []
+          → IsMade s (get_to_write s c a ++ steps.Exec c ∷ []) q
+      cas_made a x v cas empty =
           let reads : op_reads op ≡ Some a = ap op_reads cas in
           let got = write_line s r h f c core a (line_there a reads) in
-          go got.0 got.1 got.2 got.3 ((line_copy (with_caches s got.0) c a).0 == x) refl
+          made_after s (with_caches s got.0) (get_to_write s c a) (steps.Exec c ∷ []) q got.4
+          (go got.0 got.1 got.2 got.3 ((line_copy (with_caches s got.0) c a).0 == x) refl)
         where
           go : (caches : moesi.CacheState) → IsRun (with_caches s caches)
               → Follows cs (length init) (with_caches s caches) r
               → is_exclusive (moesi.line_of caches c a) ≡ true → (z : Bool)
-              → ((line_copy (with_caches s caches) c a).0 == x) ≡ z → IsSeen q
+              → ((line_copy (with_caches s caches) c a).0 == x) ≡ z → IsMade (with_caches s caches) (steps.Exec c ∷ []) q
           go caches run follows owned true found =
               let t : State = with_caches s caches in
               let b : ℕ = first_event cs c + place_of s c in
@@ -386,9 +425,10 @@ module _ (cs : List (List Op)) (init : List ℕ) (capacity : ℕ)
               ∙ ap (λ (y : Bool). cond y (Ok (loaded_state t c b (line_copy t c a))) (Err B5)) owned)))
 
     -- whatever the operation is
-    exec_seen : place_of s c ≡ row.place_of r c → (op : Op)
-        → slice_get (ops_of cs c) (row.place_of r c) ≡ Some op → may_go (waiting cs r c) op ≡ true → IsSeen q
-    exec_seen place op at may = by op refl
+    exec_made : place_of s c ≡ row.place_of r c → (op : Op)
+        → slice_get (ops_of cs c) (row.place_of r c) ≡ Some op → may_go (waiting cs r c) op ≡ true
+        → IsMade s (perform s c (event_of op (0, None))) q
+    exec_made place op at may = by op refl
       where
         there : place_of s c < length (ops_of cs c)
         there = omega (arith, place, slice_get_within (ops_of cs c) (row.place_of r c) op at)
@@ -412,45 +452,54 @@ module _ (cs : List (List Op)) (init : List ℕ) (capacity : ℕ)
             (between (ops_of cs c) (row.drained_of r c) k)) place
             ∙ no_entries (waiting cs r c) (first_event cs c + row.drained_of r c) (sym same ∙ may))
 
-        by : (o : Op) → op ≡ o → IsSeen q
+        so : (o : Op) → op ≡ o → IsMade s (perform s c (event_of o (0, None))) q
+            → IsMade s (perform s c (event_of op (0, None))) q
+        so o one made = subst (λ (z : Op). IsMade s (perform s c (event_of z (0, None))) q) (sym one) made
+
+        -- a compare-and-swap takes the steps of a swap, whatever it reads
+        as_swap : (a x v : ℕ) → perform s c (event_of (Cas a x v) (0, None)) ≡ get_to_write s c a ++ steps.Exec c ∷ []
+        as_swap a x v = go (0 == x)
+          where
+            go : (b : Bool) → perform s c (cond b (R a 0 None v) (C a 0 None)) ≡ get_to_write s c a ++ steps.Exec c ∷ []
+            go true = refl
+            go false = refl
+
+        by : (o : Op) → op ≡ o → IsMade s (perform s c (event_of op (0, None))) q
         by (St a v) one = absurd (let clash : false ≡ true =
             sym (ap (may_go (waiting cs r c)) one) ∙ may in cc)
-        by (Ld a) one = load_seen op next a one
-        by Fence one = fence_seen op next one (empty (ap (may_go (waiting cs r c)) one))
-        by (Swap a v) one = writes_seen op next a (ap op_reads one) (ap is_st one)
+        by (Ld a) one = so (Ld a) one (load_made op next a one)
+        by Fence one = so Fence one (fence_made op next one (empty (ap (may_go (waiting cs r c)) one)))
+        by (Swap a v) one = so (Swap a v) one (writes_made op next a (ap op_reads one) (ap is_st one)
             (empty (ap (may_go (waiting cs r c)) one))
             (λ d. ap (λ (z : Op). written_address (event_of z d)) one)
             (λ t. ap (exec capacity fault.None t c (first_event cs c + place_of s c)) one
-            ∙ sym (ap (λ (z : Op). read_modify_written fault.None t c (first_event cs c + place_of s c) z a) one))
-        by (Add a v) one = writes_seen op next a (ap op_reads one) (ap is_st one)
+            ∙ sym (ap (λ (z : Op). read_modify_written fault.None t c (first_event cs c + place_of s c) z a) one)))
+        by (Add a v) one = so (Add a v) one (writes_made op next a (ap op_reads one) (ap is_st one)
             (empty (ap (may_go (waiting cs r c)) one))
             (λ d. ap (λ (z : Op). written_address (event_of z d)) one)
             (λ t. ap (exec capacity fault.None t c (first_event cs c + place_of s c)) one
-            ∙ sym (ap (λ (z : Op). read_modify_written fault.None t c (first_event cs c + place_of s c) z a) one))
-        by (Cas a x v) one = cas_seen op next a x v one (empty (ap (may_go (waiting cs r c)) one))
+            ∙ sym (ap (λ (z : Op). read_modify_written fault.None t c (first_event cs c + place_of s c) z a) one)))
+        by (Cas a x v) one = so (Cas a x v) one (subst (λ (l : List Step). IsMade s l q) (sym (as_swap a x v))
+            (cas_made op next a x v one (empty (ap (may_go (waiting cs r c)) one))))
 
     -- an operation that is executed
-    execs : place_of s c ≡ row.place_of r c → IsSeen q
-    execs place = go (slice_get (ops_of cs c) (row.place_of r c)) refl is
-      where
-        go : (o : Option Op) → slice_get (ops_of cs c) (row.place_of r c) ≡ o → executed_next cs r c o ≡ Some q
-            → IsSeen q
-        go None at to = absurd (let clash : None ≡ Some q = to in cc)
-        go (Some op) at to = exec_seen place op at (some_if (may_go (waiting cs r c) op) _ q to)
+    execs : place_of s c ≡ row.place_of r c → (op : Op) → op_moved cs r Exec c ≡ Some op
+        → IsMade s (perform s c (event_of op (0, None))) q
+    execs place op at =
+        exec_made place op at (some_if (may_go (waiting cs r c) op) _ q
+        (sym (ap (executed_next cs r c) at) ∙ is))
 
   -- a store that comes to memory
   drains : (s : State) (r : Situation) → IsRun s → Follows cs (length init) s r → (c : ℕ) → c < length cs
-      → (q : Situation) → moved cs r Drain c ≡ Some q → place_of s c ≡ row.place_of r c → IsSeen q
-  drains s r h f c core q is place = go (buffer_of s c) refl
+      → (q : Situation) → moved cs r Drain c ≡ Some q → place_of s c ≡ row.place_of r c → (op : Op)
+      → op_moved cs r Drain c ≡ Some op → IsMade s (perform s c (event_of op (0, None))) q
+  drains s r h f c core q is place op at = go (buffer_of s c) refl
     where
-      e : ℕ
-      e = first_event cs c + row.drained_of r c
-
       known : entries (first_event cs c + row.drained_of r c) (waiting cs r c) ≡ buffer_of s c
       known = ap (λ (k : ℕ). entries (first_event cs c + row.drained_of r c)
           (between (ops_of cs c) (row.drained_of r c) k)) (sym place) ∙ sym (f.cores c).buffer
 
-      go : (b : List Entry) → buffer_of s c ≡ b → IsSeen q
+      go : (b : List Entry) → buffer_of s c ≡ b → IsMade s (perform s c (event_of op (0, None))) q
       go [] waits = absurd (let clash : None ≡ Some q =
           sym (ap (drained_by r c) ((none_found (waiting cs r c) (row.drained_of r c)
           (first_event cs c + row.drained_of r c) (known ∙ waits)).0)) ∙ is in cc)
@@ -476,27 +525,72 @@ module _ (cs : List (List Op)) (init : List ℕ) (capacity : ℕ)
           let turn = drain_turn got.2 (in_order t got.1) c
           (omega (arith, core, (in_order t got.1).steady.cores)) wrote.0 x xs core
           (omega (arith, core, (in_order t got.1).steady.buffers)) waits inner wrote.1 in
-          record {
+          let first = found_oldest (waiting cs r c) (row.drained_of r c) (first_event cs c + row.drained_of r c) x xs
+          (known ∙ waits) in
+          let store : op ≡ St x.addr x.value = same_Some op (St x.addr x.value)
+          (sym at ∙ ap (option_map (λ (w : Waiting). St w.address w.value)) first.found) in
+          subst (λ (z : Op). IsMade s (perform s c (event_of z (0, None))) q) (sym store)
+          (made_after s t (get_to_write s c x.addr) (steps.Drain c ∷ []) q got.4
+          (record {
             state = u;
-            is_run = step_run t u (steps.Drain c) got.1 took;
+            leads = ap (after t) took;
             follows = subst (Follows cs (length init) u) (same_Some turn.0 q (sym turn.1 ∙ is)) turn.2;
-          }
+          }))
+
+  -- a move has an operation
+  has_op : (r q : Situation) (move : Move) (c : ℕ) → moved cs r move c ≡ Some q
+      → (op : Op) × (op_moved cs r move c ≡ Some op)
+  has_op r q Exec c is = go (slice_get (ops_of cs c) (row.place_of r c)) refl
+    where
+      go : (o : Option Op) → slice_get (ops_of cs c) (row.place_of r c) ≡ o
+          → (op : Op) × (op_moved cs r Exec c ≡ Some op)
+      go None at = absurd (let clash : None ≡ Some q = sym (ap (executed_next cs r c) at) ∙ is in cc)
+      go (Some op) at = (op, at)
+  has_op r q Drain c is = go (oldest (row.drained_of r c) (waiting cs r c)) refl
+    where
+      go : (o : Option Waiting) → oldest (row.drained_of r c) (waiting cs r c) ≡ o
+          → (op : Op) × (op_moved cs r Drain c ≡ Some op)
+      go None at = absurd (let clash : None ≡ Some q = sym (ap (drained_by r c) at) ∙ is in cc)
+      go (Some x) at = (St x.address x.value, ap (option_map (λ (w : Waiting). St w.address w.value)) at)
+
+  -- a core that is there executes the stores at its place, and performs the operation of its move
+  pub move_made : (s : State) (r q : Situation) (move : Move) (c : ℕ) (op : Op) → IsRun s
+      → Follows cs (length init) s r → c < length cs → op_moved cs r move c ≡ Some op → moved cs r move c ≡ Some q
+      → let first = execute_to cs s c (first_event cs c + row.place_of r c) in
+      IsMade s (first ++ perform (run cs capacity fault.None s first) c (event_of op (0, None))) q
+  move_made s r q move c op h f core at is =
+      let j : ℕ = stores_first (drop (place_of s c) (ops_of cs c)) in
+      let many : j ≡ first_event cs c + row.place_of r c - (first_event cs c + place_of s c) =
+      omega (arith, (f.cores c).place) in
+      let ready = catch_up c core j s r h f (f.cores c).place in
+      let to : run cs capacity fault.None s (execute_to cs s c (first_event cs c + row.place_of r c)) ≡ ready.0 =
+      ap (λ (k : ℕ). run cs capacity fault.None s (replicate k (steps.Exec c))) (sym many) ∙ ready.4 in
+      made_after s (run cs capacity fault.None s (execute_to cs s c (first_event cs c + row.place_of r c)))
+      (execute_to cs s c (first_event cs c + row.place_of r c)) _ q refl
+      (subst (λ (t : State). IsMade t (perform t c (event_of op (0, None))) q) (sym to)
+      (go move ready.0 ready.1 ready.2 ready.3 at is))
+    where
+      go : (m : Move) (t : State) → IsRun t → Follows cs (length init) t r → place_of t c ≡ row.place_of r c
+          → op_moved cs r m c ≡ Some op → moved cs r m c ≡ Some q → IsMade t (perform t c (event_of op (0, None))) q
+      go Exec t run follows place one to = execs t r run follows c core q to place op one
+      go Drain t run follows place one to = drains t r run follows c core q to place op one
 
   -- so whatever a move leads to is seen
   move_seen : (r q : Situation) (move : Move) (c : ℕ) → IsSeen r → moved cs r move c ≡ Some q → IsSeen q
   move_seen r q move c seen is = elim (cases_lt c (length cs)) [
     | inr past ↦ absurd (let low = moved_past cs r q move c past is 0 in omega (arith, low))
     | inl core ↦
-        let s : State = seen.state in
-        let ready = catch_up c core (stores_first (drop (place_of s c) (ops_of cs c))) s r seen.is_run seen.follows
-        (seen.follows.cores c).place in
-        go move ready.0 ready.1 ready.2 core ready.3 is
+        let one = has_op r q move c is in
+        let made = move_made seen.state r q move c one.0 seen.is_run seen.follows core one.1 is in
+        let first : List Step = execute_to cs seen.state c (first_event cs c + row.place_of r c) in
+        record {
+          state = made.state;
+          is_run = steps_run seen.state made.state
+              (first ++ perform (run cs capacity fault.None seen.state first) c (event_of one.0 (0, None)))
+              seen.is_run made.leads;
+          follows = made.follows;
+        }
   ]
-    where
-      go : (m : Move) (t : State) → IsRun t → Follows cs (length init) t r → c < length cs
-          → place_of t c ≡ row.place_of r c → moved cs r m c ≡ Some q → IsSeen q
-      go Exec t h f core place to = execs t r h f c core q to place
-      go Drain t h f core place to = drains t r h f c core q to place
 
   -- and all that moves lead to
   pub all_seen : (origin r : Situation) → IsSeen origin → Leads cs origin r → IsSeen r

@@ -10,16 +10,17 @@ use Rattle.program.specs.declared.op.Op.TheVariants.{Fence}
 use Rattle.program.specs.Parts.{Parts, IsProgram, IsWithin, op_count}
 use Rattle.program.proofs.Soundness.{cores_within}
 use Rattle.recording.specs.Event.{value_read}
+use Rattle.recording.specs.Recording.{IsRecording}
 use Rattle.recording.specs.Tso.{IsTsoOrder}
 use Rattle.machine.specs.declared.fault.Fault.TheVariants as fault
-use Rattle.machine.specs.declared.step.Step.{Step}
 use Rattle.machine.specs.State.{State, place_of, first_event, recorded, opening, IsComplete, IsDone}
-use Rattle.machine.specs.Step.{run}
 use Rattle.machine.specs.Orderly.{is_st}
+use Rattle.machine.specs.FirstUseLaws.{counts_numbered}
+use Rattle.machine.specs.ProgramLaws.{made_addresses}
+use Rattle.machine.specs.ProgramOf.{IsProgramOf}
 use Rattle.machine.specs.RecordedLaws.{event_is, count_is}
 use Rattle.machine.proofs.Complete.{every_run_is_tso}
 use Rattle.machine.proofs.Data.{IsData, run_data}
-use Rattle.machine.proofs.InOrder.{IsInOrder}
 use Rattle.machine.proofs.MadeLemmas.{recorded_is_of}
 use Rattle.machine.proofs.Recorded.{complete_recording}
 use Rattle.machine.proofs.Static.{first_within}
@@ -29,10 +30,11 @@ use Rattle.outcomes.specs.Situation.{Situation, stores_first, between, ops_of, w
 use Rattle.outcomes.specs.Situation.{IsOver, IsEnd}
 use Rattle.outcomes.specs.Situation as row
 use Rattle.outcomes.specs.Reachable.{ComesTo, outcome_in}
-use Rattle.outcomes.proofs.Stores.{entries, none_oldest, none_stands, store_stands}
-use Rattle.outcomes.proofs.Follow.{Follows}
+use Rattle.outcomes.specs.Follow.{entries, Follows}
+use Rattle.outcomes.proofs.Stores.{none_oldest, none_stands, store_stands}
 use Rattle.outcomes.proofs.Ends.{opening_followed, final_current}
-use Rattle.outcomes.proofs.Machine.{IsSeen, in_order, all_seen}
+use Rattle.outcomes.specs.Witness.{IsRecordingOf}
+use Rattle.outcomes.proofs.Machine.{IsRun, IsSeen, in_order, all_seen}
 
 -- what stands between two places
 at_between : (ops : List Op) (low k l : ℕ) → low ≤ k → k < l
@@ -77,7 +79,7 @@ over cs n s r f c h = go (stores_first (drop (place_of s c) (ops_of cs c))) refl
         )
 
 -- a core has no more operations than there are
-core_few : (cs : List (List Op)) (c : ℕ) → length (get_or cs c []) ≤ op_count cs
+pub core_few : (cs : List (List Op)) (c : ℕ) → length (get_or cs c []) ≤ op_count cs
 core_few cs c = elim (cases_lt c (length cs)) [
   | inl core ↦ omega (arith, first_within cs c core)
   | inr past ↦ omega (arith, ap (λ (l : List Op). length l) (get_or_past cs c [] past))
@@ -85,50 +87,82 @@ core_few cs c = elim (cases_lt c (length cs)) [
 
 module _ (p : Parts) (lawful : IsProgram p) where
   -- its operations have addresses
-  fits : All (λ ops. All (IsWithin (length p.init)) ops) p.cores
+  pub fits : All (λ ops. All (IsWithin (length p.init)) ops) p.cores
   fits = subst (λ (k : ℕ). All (λ ops. All (IsWithin k) ops) p.cores) (sym lawful.init_length)
       (cores_within p.cores 0 (length p.names) (length p.names) lawful.numbered (omega arith))
+
+  -- a machine that has come to the end
+  module _ (capacity : ℕ) (room : (c : ℕ) → length (get_or p.cores c []) ≤ capacity) (s : State)
+      (is_run : IsRun p.cores p.init capacity fits room s) (r : Situation)
+      (f : Follows p.cores (length p.init) s r) (ends : IsEnd p.cores r) where
+    -- is complete
+    pub complete_there : IsComplete p.cores s
+    complete_there c = over p.cores (length p.init) s r f c (ends c)
+
+    -- with the initial values of the program
+    initial_there : s.initial ≡ p.init
+    initial_there = ap (λ (z : State). z.initial) (sym is_run.leads)
+        ∙ (run_keeps p.cores capacity fault.None (opening p.cores p.init) is_run.steps).0
+
+    -- and a write list for each
+    lists_there : length s.write_lists ≡ length p.init
+    lists_there = ap (λ (z : State). length z.write_lists) (sym is_run.leads)
+        ∙ ((run_keeps p.cores capacity fault.None (opening p.cores p.init) is_run.steps).1
+        ∙ length-replicate (length p.init) [])
+
+    -- what was given to each event is known
+    data_there : IsData p.cores s
+    data_there = subst (IsData p.cores) is_run.leads (run_data p.cores p.init capacity fault.None is_run.steps fits)
+
+    -- it makes a recording of the program
+    pub well_recorded : IsRecording (recorded p.cores s)
+    well_recorded = complete_recording p s lawful.few_cores lawful.few_ops
+        (omega (arith, lists_there, lawful.init_length, lawful.few_names))
+        (ap (λ (l : List ℕ). length l) initial_there ∙ sym lists_there) data_there complete_there
+
+    -- which comes to the outcome
+    outcome_there : IsOutcomeOf (recorded p.cores s) (outcome_in r)
+    outcome_there = record {
+      events = f.reads_size ∙ sym (count_is p.cores s);
+      reads = λ e. f.reads e ∙ sym (ap value_read (event_is p.cores s e));
+      addresses = f.memory_size ∙ sym (ap (λ (l : List ℕ). length l) initial_there);
+      memory = λ a inside.
+          let within : a < length p.init = omega (arith, inside, ap (λ (l : List ℕ). length l) initial_there) in
+          f.memory a within ∙ final_current p.cores s (in_order p.cores p.init capacity fits room s is_run) data_there a
+          (omega (arith, within, f.blocks));
+    }
+
+    -- and has a TSO order
+    pub recorded_there : IsRecordingOf p (outcome_in r) (recorded p.cores s)
+    recorded_there =
+        let is : IsProgramOf p (recorded p.cores s) = recorded_is_of p s (sym initial_there) in
+        let names : length p.names ≡ length s.write_lists = sym lawful.init_length ∙ sym lists_there in
+        record {
+          program = is;
+          outcome = outcome_there;
+          order = s.performed;
+          tso = subst (λ (z : State). IsComplete p.cores z → IsTsoOrder (recorded p.cores z) z.performed) is_run.leads
+              (every_run_is_tso p.cores p.init capacity is_run.steps fits) complete_there;
+          numbered = counts_numbered (recorded p.cores s) p.cores (made_addresses p (recorded p.cores s) is)
+              (lawful.numbered ∙ ap (λ (k : ℕ). Some k) names);
+        }
 
   -- what moves come to is allowed
   pub reached_allowed : (o : Outcome) → ComesTo p o → IsAllowed p o
   reached_allowed o comes =
-      let cs : List (List Op) = p.cores in
-      let capacity : ℕ = op_count cs in
-      let origin : IsSeen cs p.init capacity fits (core_few cs) (beginning p) = record {
-        state = opening cs p.init;
+      let capacity : ℕ = op_count p.cores in
+      let origin : IsSeen p.cores p.init capacity fits (core_few p.cores) (beginning p) = record {
+        state = opening p.cores p.init;
         is_run = record { steps = []; leads = refl };
-        follows = opening_followed p cs p.init refl refl refl;
+        follows = opening_followed p p.cores p.init refl refl refl;
       } in
-      let seen = all_seen cs p.init capacity fits (core_few cs) (beginning p) comes.0 origin comes.1 in
-      let s : State = seen.state in
-      let f : Follows cs (length p.init) s comes.0 = seen.follows in
-      let steps : List Step = seen.is_run.steps in
-      let leads : run cs capacity fault.None (opening cs p.init) steps ≡ s = seen.is_run.leads in
-      let end : IsComplete cs s = λ c. over cs (length p.init) s comes.0 f c (comes.2 c) in
-      let order : IsInOrder cs s = in_order cs p.init capacity fits (core_few cs) s seen.is_run in
-      let given : IsData cs s = subst (IsData cs) leads (run_data cs p.init capacity fault.None steps fits) in
-      let kept = run_keeps cs capacity fault.None (opening cs p.init) steps in
-      let initial : s.initial ≡ p.init = ap (λ (z : State). z.initial) (sym leads) ∙ kept.0 in
-      let lists : length s.write_lists ≡ length p.init =
-      ap (λ (z : State). length z.write_lists) (sym leads) ∙ (kept.1 ∙ length-replicate (length p.init) []) in
-      let tso : IsTsoOrder (recorded cs s) s.performed =
-      subst (λ (z : State). IsComplete cs z → IsTsoOrder (recorded cs z) z.performed) leads
-      (every_run_is_tso cs p.init capacity steps fits) end in
-      let outcome : IsOutcomeOf (recorded cs s) (outcome_in comes.0) = record {
-        events = f.reads_size ∙ sym (count_is cs s);
-        reads = λ e. f.reads e ∙ sym (ap value_read (event_is cs s e));
-        addresses = f.memory_size ∙ sym (ap (λ (l : List ℕ). length l) initial);
-        memory = λ a inside.
-            let within : a < length p.init = omega (arith, inside, ap (λ (l : List ℕ). length l) initial) in
-            f.memory a within ∙ final_current cs s order given a (omega (arith, within, f.blocks));
-      } in
+      let seen = all_seen p.cores p.init capacity fits (core_few p.cores) (beginning p) comes.0 origin comes.1 in
+      let made = recorded_there capacity (core_few p.cores) seen.state seen.is_run comes.0 seen.follows comes.2 in
       record {
-        execution = recorded cs s;
-        recording = complete_recording p s lawful.few_cores lawful.few_ops
-            (omega (arith, lists, lawful.init_length, lawful.few_names))
-            (ap (λ (l : List ℕ). length l) initial ∙ sym lists) given end;
-        program = recorded_is_of p s (sym initial);
-        order = s.performed;
-        tso = tso;
-        outcome = subst (IsOutcomeOf (recorded cs s)) comes.3 outcome;
+        execution = recorded p.cores seen.state;
+        recording = well_recorded capacity (core_few p.cores) seen.state seen.is_run comes.0 seen.follows comes.2;
+        program = made.program;
+        order = made.order;
+        tso = made.tso;
+        outcome = subst (IsOutcomeOf (recorded p.cores seen.state)) comes.3 made.outcome;
       }

@@ -1,6 +1,7 @@
 //! The outcomes that TSO allows of a program.
 #![tactic(auto)]
 
+mod driving;
 mod law;
 mod list;
 mod moves;
@@ -12,6 +13,8 @@ mod reads;
 mod row;
 mod seen;
 mod steps;
+mod way;
+mod witness;
 
 pub use law::every_outcome_is_reached;
 pub use list::outcomes;
@@ -22,3 +25,4 @@ pub use outcome::Outcome;
 pub use reads::{does_read, first_event, value_at};
 pub use row::Row;
 pub use seen::search;
+pub use witness::{Witness, first_recording};

@@ -3,10 +3,10 @@
 ghost use Rattle.std.specs.Prelude.{◌≡◌, ◌<◌, ◌≤◌, ◌↔◌, ℕ, All, Contains, IfNone, IfOk, IfSome, OnOk, IsTrue, length};
 ghost use Rattle.outcomes.specs.Outcome.{AreOutcomes};
 ghost use Rattle.outcomes.specs.Situation.{Situation, IsEnd, IsOver};
-ghost use Rattle.outcomes.specs.Reachable.{HasMore, outcome_in};
+ghost use Rattle.outcomes.specs.Reachable.{AreReachable, HasMore, outcome_in};
 ghost use Rattle.std.specs.List.{IsDistinct};
 ghost use Rattle.std.specs.List.Sorted.{IsSorted};
-ghost use Rattle.outcomes.specs.Listed.{AreEndings, compared, same_outcome, with_outcome};
+ghost use Rattle.outcomes.specs.Listed.{AreEndings, IsEnding, compared, same_outcome, with_outcome};
 
 use crate::law::every_outcome_is_reached;
 use crate::ops::{between, oldest};
@@ -34,7 +34,7 @@ fn is_over(program: &Program, row: &Row, core: usize) -> bool
 }
 
 /// Whether every core has come to its end.
-fn is_end(program: &Program, row: &Row) -> bool
+pub(crate) fn is_end(program: &Program, row: &Row) -> bool
     ensures { IsTrue result ↔ IsEnd program.now.cores row.now }
 {
     for core in 0..program.cores() {
@@ -68,6 +68,26 @@ fn endings(alloc: Global, program: &Program, rows: &[Row]) -> Result<IndexSet<Ou
     Ok(found)
 }
 
+/// The outcomes that TSO allows of a program, by all rows that moves lead to: each once, in dictionary order. Fails only
+/// if out of memory.
+pub(crate) fn listed(
+    alloc: Global,
+    program: &Program,
+    rows: &[Row],
+) -> Result<IndexSet<Outcome>, OutOfMemory>
+    requires { AreReachable program.now rows.now }
+    ensures exact { IfOk result (λ found. AreOutcomes program.now found.keys) }
+    ensures sorted { IfOk result (λ found. IsSorted compared found.keys) }
+    ensures once { IfOk result (λ found. IsDistinct same_outcome found.keys) }
+    ensures ending { IfOk result (λ found. All (IsEnding program.now.cores rows.now) found.keys) }
+{
+    every_outcome_is_reached();
+    program.sound();
+    let mut found = endings(alloc, program, rows)?;
+    found.sort()?;
+    Ok(found)
+}
+
 /// The outcomes that TSO allows of a program, each once, in dictionary order; None where the search would look at more
 /// than `limit` situations. Fails only if out of memory.
 pub fn outcomes(
@@ -80,12 +100,8 @@ pub fn outcomes(
     ensures sorted { IfOk result (λ o. IfSome o (λ found. IsSorted compared found.keys)) }
     ensures once { IfOk result (λ o. IfSome o (λ found. IsDistinct same_outcome found.keys)) }
 {
-    every_outcome_is_reached();
-    program.sound();
     let Some(seen) = search(alloc, program, limit)? else {
         return Ok(None);
     };
-    let mut found = endings(alloc, program, seen.as_slice())?;
-    found.sort()?;
-    Ok(Some(found))
+    Ok(Some(listed(alloc, program, seen.as_slice())?))
 }

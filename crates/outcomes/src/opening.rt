@@ -12,7 +12,7 @@ use program::{Ops, Program};
 use std::alloc::Global;
 
 /// How many operations there are.
-fn op_count(cores: &[Ops]) -> usize
+pub(crate) fn op_count(cores: &[Ops]) -> usize
     requires { op_count cores.now ≤ MAX_EVENTS }
     ensures { result ≡ op_count cores.now }
 {

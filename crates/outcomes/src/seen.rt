@@ -5,7 +5,7 @@ ghost use Rattle.std.specs.Prelude.{length, slice_get};
 ghost use Rattle.outcomes.specs.declared.moves.Move.{Move};
 ghost use Rattle.outcomes.specs.Situation.{Situation, beginning, moved};
 ghost use Rattle.outcomes.specs.Row.{with_next};
-ghost use Rattle.outcomes.specs.Reachable.{AreReachable, HasMore, HasMove, HasNext, Grows, Leads};
+ghost use Rattle.outcomes.specs.Reachable.{AreInOrder, AreReachable, HasMore, HasMove, HasNext, Grows, Leads};
 
 use crate::moves::{Move, Turn};
 use crate::opening::beginning;
@@ -37,8 +37,10 @@ fn take(
     requires core { turn.core < length program.now.cores }
     requires there { at < length seen.old.keys }
     requires reached { All (Leads program.now.cores (beginning program.now)) seen.old.keys }
+    requires order { AreInOrder program.now seen.old.keys }
     ensures grows { OnOk result (Grows seen.old.keys seen.new.keys) }
     ensures reached { OnOk result (All (Leads program.now.cores (beginning program.now)) seen.new.keys) }
+    ensures order { OnOk result (AreInOrder program.now seen.new.keys) }
     ensures next { OnOk result ((r : Situation) → slice_get seen.old.keys at ≡ Some r
         → HasMove program.now.cores seen.new.keys r turn.step turn.core) }
 {
@@ -56,8 +58,10 @@ fn expand(
 ) -> Result<(), OutOfMemory>
     requires there { at < length seen.old.keys }
     requires reached { All (Leads program.now.cores (beginning program.now)) seen.old.keys }
+    requires order { AreInOrder program.now seen.old.keys }
     ensures grows { OnOk result (Grows seen.old.keys seen.new.keys) }
     ensures reached { OnOk result (All (Leads program.now.cores (beginning program.now)) seen.new.keys) }
+    ensures order { OnOk result (AreInOrder program.now seen.new.keys) }
     ensures next { OnOk result ((r : Situation) → slice_get seen.old.keys at ≡ Some r
         → HasNext program.now.cores seen.new.keys r) }
 {

@@ -10,9 +10,11 @@ use std::marker::Model;
 
 /// A machine that takes steps, with the steps that it has taken.
 #[derive(Drop)]
-pub(crate) struct Replay {
-    pub(crate) machine: Machine,
-    pub(crate) steps: Vec<Step>,
+pub struct Replay {
+    /// The machine.
+    pub machine: Machine,
+    /// The steps that it has taken.
+    pub steps: Vec<Step>,
 }
 
 impl Model for Replay {
@@ -39,8 +41,8 @@ impl Replay {
         Ok(())
     }
 
-    /// A core executes its events before this one, as far as it has not yet.
-    fn execute_to(&mut self, core: CoreId, event: usize) -> Result<(), OutOfMemory>
+    /// A core executes its events before this one, as far as it has not yet. Fails only if out of memory.
+    pub fn execute_to(&mut self, core: CoreId, event: usize) -> Result<(), OutOfMemory>
         requires { core < length self.old.machine.program.cores }
         ensures { OnOk result (self.new ≡ with_steps self.old
             (execute_to self.old.machine.program.cores self.old.machine.state core event)) }
@@ -79,8 +81,9 @@ impl Replay {
         self.take(Step::GetS(core, addr))
     }
 
-    /// A core performs an event: its oldest store, or else its next operation.
-    fn perform(&mut self, core: CoreId, event: Event) -> Result<(), OutOfMemory>
+    /// A core performs an event: its oldest store, or else its next operation, for which it gets the line first.
+    /// Fails only if out of memory.
+    pub fn perform(&mut self, core: CoreId, event: Event) -> Result<(), OutOfMemory>
         requires core { core < length self.old.machine.program.cores }
         requires addresses { (a : ℕ) → (read_address event ≡ Some a) ⊎ (written_address event ≡ Some a)
             → a < length self.old.machine.program.names }

@@ -1,7 +1,6 @@
 use Rattle.std.proofs.Common.{◌≡◌, ◌<◌, List, [], ◌∷◌, length, arith}
 use Rattle.outcomes.specs.Situation.{Situation}
-use Rattle.outcomes.proofs.Grown.{first_seen, first_reached, first_there, one_more, reachable}
-use Rattle.outcomes.proofs.Grown.{there_grown, grown_length}
+use Rattle.outcomes.proofs.Grown.{first_seen, first_reached, first_order, one_more, reachable, grown_length}
 use Rattle.outcomes.proofs.seen.search.Goals as goal
 
 pub loop-at-init : goal.loop-at-init
@@ -12,7 +11,7 @@ loop-at-init c =
     c.in_ok-_new.ensures.keys in
     record {
       reached = first_reached c.args.program.now keys row one c.in_ok-beginning.ensures;
-      begins = first_there c.args.program.now keys row one c.in_ok-beginning.ensures;
+      order = first_order c.args.program.now keys row one c.in_ok-beginning.ensures;
       within = omega arith;
       closed = λ i r low. absurd (omega (arith, low));
     }
@@ -20,13 +19,13 @@ loop-at-init c =
 pub returns-then-at-len-clause-found : goal.returns-then-at-len-clause-found
 returns-then-at-len-clause-found c =
     let old = c.loop-at.invariant in
-    reachable c.args.program.now c.loop-at.seen.keys old.reached old.begins
+    reachable c.args.program.now c.loop-at.seen.keys old.reached old.order
     (λ i r inside at. old.closed i r (omega (arith, inside, c.if-at-len.true, c.len.ensures.len)) at)
 
 pub returns-then-len-limit-clause-found : goal.returns-then-len-limit-clause-found
 returns-then-len-limit-clause-found c =
     let old = c.loop-at.invariant in
-    reachable c.args.program.now c.loop-at.seen.keys old.reached old.begins
+    reachable c.args.program.now c.loop-at.seen.keys old.reached old.order
     (λ i r inside at. old.closed i r
     (omega (arith, inside, c.if-len-limit.true, c.len-2.ensures.len, c.loop-at-test.false)) at)
 
@@ -38,7 +37,7 @@ loop-at-preserved c =
     let inside : c.loop-at.at < length was = omega (arith, old.within, c.if-at-len.false, c.len.ensures.len) in
     record {
       reached = c.in_ok-expand.ensures.reached;
-      begins = there_grown was new _ c.in_ok-expand.ensures.grows old.begins;
+      order = c.in_ok-expand.ensures.order;
       within = omega (arith, inside, grown_length was new c.in_ok-expand.ensures.grows);
       closed = one_more c.args.program.now.cores was new c.loop-at.at inside c.in_ok-expand.ensures.grows old.closed
           c.in_ok-expand.ensures.next;

@@ -1,9 +1,10 @@
-use Rattle.std.proofs.Common.{◌≡◌, ◌∙◌, Some, List, get_or, sym, ap, subst}
+use Rattle.std.proofs.Common.{◌≡◌, ◌∙◌, Some, List, get_or, slice_get, sym, ap, subst}
 use Rattle.std.specs.List.{All, Contains}
-use Rattle.std.proofs.lemmas.Option.{get_or_from_slice_get}
+use Rattle.std.proofs.lemmas.Option.{get_or_from_slice_get, slice_get-get_or}
 use Rattle.outcomes.specs.Situation.{Situation, beginning, moved}
 use Rattle.outcomes.specs.Reachable.{Leads, further}
-use Rattle.outcomes.proofs.Grown.{on_ok, all_next, next_there}
+use Rattle.outcomes.specs.Reachable.{AreInOrder}
+use Rattle.outcomes.proofs.Grown.{on_ok, all_next, next_there, order_next}
 use Rattle.outcomes.proofs.seen.take.Goals as goal
 
 pub returns-clause-reached : goal.returns-clause-reached
@@ -20,6 +21,19 @@ returns-clause-reached c =
     c.requires.reached
     (λ r next. further row r c.args.turn.step c.args.turn.core led (sym c.in_ok-next.ensures ∙ next))))
     c.add.ensures
+
+pub returns-clause-order : goal.returns-clause-order
+returns-clause-order c =
+    let row : Situation = c.index-as_slice-at.result in
+    let is : row ≡ get_or c.args.seen.now.keys c.args.at row = c.index-as_slice-at.is
+    ∙ ap (λ (l : List Situation). get_or l c.args.at row) c.as_slice.ensures.keys in
+    let at : slice_get c.args.seen.now.keys c.args.at ≡ Some row =
+    slice_get-get_or c.args.seen.now.keys c.args.at row c.requires.there
+    ∙ ap (λ (z : Situation). Some z) (sym is) in
+    on_ok _ _ c.add.result
+    (λ keys. subst (AreInOrder c.args.program.now) (sym keys)
+    (order_next c.args.program.now c.args.seen.now.keys c.in_ok-next.next c.args.at row c.args.turn c.requires.order at
+    (sym c.in_ok-next.ensures))) c.add.ensures
 
 pub returns-clause-next : goal.returns-clause-next
 returns-clause-next c =

@@ -1,0 +1,109 @@
+//! Recordings of the first outcome with some values.
+
+ghost use Rattle.std.specs.Prelude.{◌≡◌, ◌↔◌, IfNone, IfOk, IfSome, IsTrue, option_map};
+ghost use Rattle.outcomes.specs.Listed.{IsEnding};
+ghost use Rattle.outcomes.specs.Reachable.{AreReachable, outcome_in};
+ghost use Rattle.outcomes.specs.Situation.{IsEnd};
+ghost use Rattle.outcomes.specs.Witness.{IsEndingAt, IsRecordingOf, IsWitness, first_showing};
+
+use crate::driving::drive;
+use crate::list::{is_end, listed};
+use crate::observed::{Observation, shows_all};
+use crate::outcome::Outcome;
+use crate::row::Row;
+use crate::seen::search;
+use crate::way::way_to;
+use common::OutOfMemory;
+use program::Program;
+use recording::Recording;
+use std::alloc::Global;
+
+/// What is known of executions with some values.
+#[derive(Drop)]
+pub enum Witness {
+    /// A recording of the first outcome that has them.
+    Found(Recording),
+    /// TSO allows no outcome that has them.
+    Forbidden,
+    /// There are more states than may be looked at.
+    Unfinished,
+}
+
+/// The first of these outcomes that has the values.
+fn first_showing<'a>(outcomes: &'a [Outcome], seen: &[Observation]) -> Option<&'a Outcome>
+    ensures { option_map (λ o. o.now) result ≡ first_showing outcomes.now seen.now }
+{
+    for outcome in outcomes {
+        if shows_all(outcome, seen) {
+            return Some(outcome);
+        }
+    }
+    None
+}
+
+/// Whether a row is at its end, with this outcome.
+fn comes_to(program: &Program, row: &Row, outcome: &Outcome) -> bool
+    ensures { IsTrue result ↔ (IsEnd program.now.cores row.now × (outcome_in row.now ≡ outcome.now)) }
+{
+    row.reads() == outcome.reads() && row.memory() == outcome.memory() && is_end(program, row)
+}
+
+/// The index of a row at its end with this outcome, where there is one.
+fn ending_with(program: &Program, rows: &[Row], outcome: &Outcome) -> Option<usize>
+    ensures some { IfSome result (IsEndingAt program.now.cores rows.now outcome.now) }
+    ensures none { IfNone result (IsEnding program.now.cores rows.now outcome.now → ⊥) }
+{
+    for at in 0..rows.len() {
+        if comes_to(program, &rows[at], outcome) {
+            return Some(at);
+        }
+    }
+    None
+}
+
+/// A recording of an outcome to which one of the rows comes.
+fn recording_of(
+    alloc: Global,
+    program: &Program,
+    rows: &[Row],
+    outcome: &Outcome,
+) -> Result<Recording, OutOfMemory>
+    requires reachable { AreReachable program.now rows.now }
+    requires ending { IsEnding program.now.cores rows.now outcome.now }
+    ensures { IfOk result (IsRecordingOf program.now outcome.now) }
+{
+    program.sound();
+    let Some(at) = ending_with(program, rows, outcome) else {
+        unreachable!()
+    };
+    let turns = way_to(alloc, program, rows, at)?;
+    let replay = drive(alloc, program, &turns)?;
+    match replay.machine.finish() {
+        Ok(recording) => Ok(recording),
+        Err(_) => unreachable!(),
+    }
+}
+
+/// A recording of the first outcome of a program that has the values, where TSO allows one and no more than `limit`
+/// situations have to be looked at. Fails only if out of memory.
+pub fn first_recording(
+    alloc: Global,
+    program: &Program,
+    seen: &[Observation],
+    limit: usize,
+) -> Result<Witness, OutOfMemory>
+    ensures { IfOk result (IsWitness program.now limit seen.now) }
+{
+    let Some(all) = search(alloc, program, limit)? else {
+        return Ok(Witness::Unfinished);
+    };
+    let rows = all.as_slice();
+    let found = listed(alloc, program, rows)?;
+    match first_showing(found.as_slice(), seen) {
+        Some(outcome) => {
+            let recording = recording_of(alloc, program, rows, outcome)?;
+            Ok(Witness::Found(recording))
+        }
+        None => Ok(Witness::Forbidden),
+    }
+}
