@@ -20,8 +20,8 @@ pub enum Condition {
     Never,
 }
 
-/// What is answered where there are more states than may be seen.
-fn unfinished(alloc: Global) -> Result<Answer, OutOfMemory>
+/// What is answered where there are more states than may be seen. Fails only if out of memory.
+pub fn unfinished_answer(alloc: Global) -> Result<Answer, OutOfMemory>
     ensures { IfOk result (IsText Outcome.Unfinished (codes "unfinished" ++ 10 ∷ [])) }
 {
     Ok(Answer::of(alloc, Outcome::Unfinished, "unfinished\n")?)
@@ -44,7 +44,7 @@ pub fn outcomes_answer(
                 text,
             })
         }
-        None => unfinished(alloc),
+        None => unfinished_answer(alloc),
     }
 }
 
@@ -78,12 +78,12 @@ pub fn log_answer(
                 text: report.text,
             })
         }
-        None => unfinished(alloc),
+        None => unfinished_answer(alloc),
     }
 }
 
-/// The answer to a condition.
-fn met_answer(alloc: Global, met: bool) -> Result<Answer, OutOfMemory>
+/// The answer to a condition. Fails only if out of memory.
+pub fn met_answer(alloc: Global, met: bool) -> Result<Answer, OutOfMemory>
     ensures { IfOk result (IsText (condition_outcome met) (condition_text met)) }
 {
     if met {
@@ -116,6 +116,6 @@ pub fn condition_answer(
 {
     match outcomes(alloc, program, states)? {
         Some(found) => met_answer(alloc, is_met(condition, found.as_slice(), seen)),
-        None => unfinished(alloc),
+        None => unfinished_answer(alloc),
     }
 }

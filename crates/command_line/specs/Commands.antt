@@ -10,7 +10,7 @@ use Rattle.clap.specs.declared.builder.ArgAction.TheVariants.{Append, Set, SetTr
 use Rattle.clap.specs.declared.builder.value_parser.ValueParser.TheVariants.{Unsigned}
 use Rattle.command_line.specs.declared.table.CommandRow.{CommandRow}
 use Rattle.command_line.specs.declared.table.Takes.{Takes}
-use Rattle.command_line.specs.declared.table.Takes.TheVariants.{Place, Places, Text as Word, Number, Size, Nothing}
+use Rattle.command_line.specs.declared.table.Takes.TheVariants.{Place, Places, Text as Word, Shown, Number, Size, Nothing}
 
 -- the commands, each with the names of its arguments and options, and what they take
 abbrev pub commands : List (Text × List (Text × Takes))
@@ -42,7 +42,7 @@ commands = (
     ∷ (
       codes "outcomes",
       (codes "PROGRAM", Place) ∷ (codes "states", Number) ∷ (codes "observed", Word) ∷ (codes "unseen", Nothing)
-          ∷ (codes "exists", Word) ∷ (codes "never", Word) ∷ (codes "words", Nothing) ∷ [],
+          ∷ (codes "exists", Word) ∷ (codes "never", Word) ∷ (codes "items", Shown) ∷ (codes "words", Nothing) ∷ [],
     )
     ∷ []
 
@@ -55,6 +55,7 @@ abbrev pub rule_by : Takes → Text → Rule
 rule_by Place id = record (new_rule id) { required = true; action = Some Set }
 rule_by Places id = record (new_rule id) { required = true; action = Some Append }
 rule_by Word id = record (new_rule id) { long = Some id; value_names = 1; action = Some Set }
+rule_by Shown id = record (new_rule id) { long = Some (codes "show"); value_names = 1; action = Some Set }
 rule_by Number id = record (new_rule id) {
   long = Some id;
   value_names = 1;

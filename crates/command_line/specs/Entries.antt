@@ -95,6 +95,7 @@ given id rows = option_map_or (λ text. 1) (first_of id rows) 0
 -- how many questions are asked of outcomes
 abbrev pub questions : List Row → ℕ
 questions rows = given (codes "observed") rows + given (codes "exists") rows + given (codes "never") rows
+    + given (codes "items") rows
 
 -- the options of outcomes that don't go together: two that ask different things, or --unseen without --observed
 abbrev pub question_misfit : List Row → Option Misfit

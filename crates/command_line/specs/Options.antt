@@ -11,7 +11,7 @@ use Rattle.command_line.specs.declared.options.Options.TheVariants.{Run, Judge, 
 use Rattle.command_line.specs.declared.options.Options.TheVariants.{Verify, Survey, Merge, Outcomes}
 use Rattle.command_line.specs.declared.options.OutcomesOptions.{OutcomesOptions}
 use Rattle.command_line.specs.declared.options.Question.{Question}
-use Rattle.command_line.specs.declared.options.Question.TheVariants.{All, Observed, Exists, Never}
+use Rattle.command_line.specs.declared.options.Question.TheVariants.{All, Observed, Exists, Never, Show}
 use Rattle.command_line.specs.declared.options.VerifyOptions.{VerifyOptions}
 use Rattle.command_line.specs.declared.options.SurveyOptions.{SurveyOptions}
 use Rattle.command_line.specs.declared.options.MergeOptions.{MergeOptions}
@@ -140,11 +140,12 @@ pub record AreMergeOptions (o : MergeOptions) (rows : List Row) : Type 0 where
 -- the question of the entries, of which one at most asks
 abbrev pub IsQuestion : Question → Bool → List Row → Type 0
 IsQuestion All unseen rows = (first_of (codes "observed") rows ≡ None) × (first_of (codes "exists") rows ≡ None)
-    × (first_of (codes "never") rows ≡ None)
+    × (first_of (codes "never") rows ≡ None) × (first_of (codes "items") rows ≡ None)
 IsQuestion (Observed file whole) unseen rows =
     (first_of (codes "observed") rows ≡ Some (string_bytes file)) × (whole ≡ unseen)
 IsQuestion (Exists items) unseen rows = first_of (codes "exists") rows ≡ Some (string_bytes items)
 IsQuestion (Never items) unseen rows = first_of (codes "never") rows ≡ Some (string_bytes items)
+IsQuestion (Show items) unseen rows = first_of (codes "items") rows ≡ Some (string_bytes items)
 
 -- each option of outcomes is its entry, or else its default
 pub record AreOutcomesOptions (o : OutcomesOptions) (rows : List Row) : Type 0 where

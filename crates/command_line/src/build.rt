@@ -33,6 +33,10 @@ fn arg<'a>(alloc: Global, row: &ArgumentRow) -> Arg<'a>
             .long(row.name)
             .value_name(row.value)
             .action(ArgAction::Set),
+        Takes::Shown => arg
+            .long("show")
+            .value_name(row.value)
+            .action(ArgAction::Set),
         Takes::Number => arg
             .long(row.name)
             .value_name(row.value)

@@ -151,6 +151,9 @@ fn question(alloc: Global, matches: &ArgMatches<'_>, unseen: bool) -> Result<Que
     if let Some(items) = maybe_given(alloc, matches, "never")? {
         return Ok(Question::Never(items));
     }
+    if let Some(items) = maybe_given(alloc, matches, "items")? {
+        return Ok(Question::Show(items));
+    }
     Ok(Question::All)
 }
 

@@ -239,6 +239,8 @@ pub enum Question {
     Exists(String),
     /// Whether none has these items.
     Never(String),
+    /// A recording of the first with these items.
+    Show(String),
 }
 
 /// Why the entries of words that `clap` takes are refused. Where several apply, the first in this order
@@ -265,7 +267,7 @@ pub enum Misfit {
     EachWithShow,
     /// `--reduce` cuts down what `--show` shows.
     ReduceWithoutShow,
-    /// Two of `--observed`, `--exists` and `--never` ask different things.
+    /// Two of `--observed`, `--exists`, `--never` and `--show` ask different things.
     TwoQuestions,
     /// `--unseen` belongs to `--observed`.
     UnseenWithoutObserved,
@@ -284,7 +286,7 @@ impl Display for Misfit {
             }
             Misfit::TwoQuestions => {
                 f.write_str(
-                    "error: only one of '--observed', '--exists' and '--never' can be used",
+                    "error: only one of '--observed', '--exists', '--never' and '--show' can be used",
                 )?;
             }
             Misfit::UnseenWithoutObserved => {

@@ -321,19 +321,25 @@ allowed outcomes no line shows, with `--unseen` their lines.
 With `--exists` or `--never`, `Yes` or `No` says whether some outcome has all of the items,
 or none; between items stands a space or `/\\`.
 
+With `--show` stands a recording of the first outcome that has all of the items, after what
+`replay` prints of it: `buffer N`, a program and a script, with empty lines between; or `No`,
+if no outcome has them.
+
 The states of a machine with store buffers are looked at, some 700,000 a second, of some 180
 bytes each. If there are more than `--states` allows, `unfinished` is printed alone.",
     statuses: "Exit status:
-  0  the outcomes are printed; each line of the log is allowed; the condition holds
+  0  the outcomes are printed, or a recording of one; each line of the log is allowed; the
+     condition holds
   1  an error of the command line, a file or memory, as standard error says
-  2  a line of the log is forbidden; the condition does not hold
+  2  a line of the log is forbidden; the condition does not hold; no outcome has the items
   3  the program, the log, the items or a number was refused, as the line `refused: ..` says
   4  there are more states than may be looked at
 
 Examples:
   tsotest outcomes store_buffering.litmus
   tsotest outcomes store_buffering.litmus --observed board.log --unseen
-  tsotest outcomes store_buffering.litmus --exists '0:r0=0 1:r0=0'",
+  tsotest outcomes store_buffering.litmus --exists '0:r0=0 1:r0=0'
+  tsotest outcomes store_buffering.litmus --show '0:r0=0 1:r0=0'",
 };
 
 /// The page of the command with this name.

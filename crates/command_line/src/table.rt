@@ -9,6 +9,8 @@ pub enum Takes {
     Places,
     /// A text, which may be left out.
     Text,
+    /// The text of `--show`, which may be left out. Its name is not `show`: of other commands that is a number.
+    Shown,
     /// A number of 64 bits, which may be left out.
     Number,
     /// A number of 64 bits that has to be given.
@@ -249,6 +251,13 @@ const NEVER: ArgumentRow = ArgumentRow {
     help: "Says whether no outcome has these items",
 };
 
+const SHOW_ITEMS: ArgumentRow = ArgumentRow {
+    name: "items",
+    takes: Takes::Shown,
+    value: "ITEMS",
+    help: "Shows how the first outcome with these items comes about: a program, a script and a recording",
+};
+
 /// The commands, in the order of the help.
 pub const COMMANDS: &[CommandRow] = &[
     CommandRow {
@@ -308,6 +317,6 @@ pub const COMMANDS: &[CommandRow] = &[
     },
     CommandRow {
         name: "outcomes",
-        arguments: &[PROGRAM, STATES, OBSERVED, UNSEEN, EXISTS, NEVER, WORDS],
+        arguments: &[PROGRAM, STATES, OBSERVED, UNSEEN, EXISTS, NEVER, SHOW_ITEMS, WORDS],
     },
 ];

@@ -1,18 +1,28 @@
 -- What outcomes answers.
-use Rattle.std.specs.Prelude.{◌≡◌, ◌⊎◌, ◌++◌, ◌∷◌, [], ℕ, Bool, List, Option, Ok, Err, codes, decimal, string_bytes}
+use Rattle.std.specs.Prelude.{◌≡◌, ◌⊎◌, ◌++◌, ◌∷◌, [], ℕ, Bool, false, List, Option, Ok, Err, codes, decimal}
+use Rattle.std.specs.Prelude.{string_bytes}
 use Rattle.program.specs.Parts.{Parts}
 use Rattle.command_line.specs.declared.options.OutcomesOptions.{OutcomesOptions}
 use Rattle.command_line.specs.declared.options.Question.{Question}
-use Rattle.command_line.specs.declared.options.Question.TheVariants.{All, Observed, Exists, Never}
+use Rattle.command_line.specs.declared.options.Question.TheVariants.{All, Observed, Exists, Never, Show}
 use Rattle.litmus.specs.Refusals.{refusal_line}
 use Rattle.outcomes.specs.declared.observed.Observation.{Observation}
+use Rattle.outcomes.specs.Observed.{IsExplained}
+use Rattle.outcomes.specs.Outcome.{Outcome}
+use Rattle.outcomes.specs.Witness.{IsFirst, IsRecordingOf}
 use Rattle.outcome_texts.specs.Log.{log_says}
 use Rattle.outcome_texts.specs.ObservedLine.{condition_of}
 use Rattle.outcome_texts.specs.Seen.{Seen}
 use Rattle.verdicts.specs.declared.printed.Answer.{Answer}
 use Rattle.answers.specs.declared.outcome_answers.Condition.{Condition}
 use Rattle.answers.specs.declared.outcome_answers.Condition.TheVariants as condition
-use Rattle.answers.specs.Outcomes.{IsConditionAnswer, IsLogAnswer, IsOutcomesAnswer}
+use Rattle.answers.specs.Outcomes.{IsConditionAnswer, IsLogAnswer, IsOutcomesAnswer, IsText, IsUnfinished}
+use Rattle.answers.specs.Outcomes.{condition_text}
+use Rattle.recorder.specs.Text.{recording_text}
+use Rattle.recording.specs.Execution.{Execution}
+use Rattle.verdicts.specs.Judgement.{IsOrderedVerdict}
+use Rattle.verdicts.specs.declared.outcome.Outcome.TheVariants.{Done, Violation}
+use Rattle.commands.specs.Replay.{IsReplayText}
 use Rattle.inputs.specs.declared.command_error.CommandError.TheVariants.{OutOfMemory}
 use Rattle.inputs.specs.declared.command_stop.CommandStop.{CommandStop}
 use Rattle.inputs.specs.declared.command_stop.CommandStop.TheVariants.{Refused, Failed}
@@ -35,6 +45,27 @@ abbrev pub IsConditioned : Parts → ℕ → Condition → List ℕ → Answer �
 IsConditioned p states wanted text answer =
     (seen : List Observation) × (condition_of p text ≡ Ok seen) × IsConditionAnswer p states wanted seen answer
 
+-- the replay of a recording's least order, and the recording, with an empty line between
+pub record IsReplayedRecording (x : Execution) (answer : Answer) : Type 0 where
+  pub order : List ℕ
+  pub least : IsOrderedVerdict x order
+  pub replay : List ℕ
+  pub replayed : IsReplayText x order replay
+  pub outcome : answer.outcome ≡ Done
+  pub text : answer.text.items ≡ replay ++ 10 ∷ [] ++ recording_text x
+
+-- a recording of the first outcome that has the values, that TSO allows none, or that there are more states than may
+-- be seen
+abbrev pub IsShowAnswer : Parts → ℕ → List Observation → Answer → Type 0
+IsShowAnswer p states seen answer =
+    ((o : Outcome) × (x : Execution) × IsFirst p seen o × IsRecordingOf p o x × IsReplayedRecording x answer)
+    ⊎ ((¬ IsExplained p seen × IsText Violation (condition_text false) answer) ⊎ IsUnfinished p states answer)
+
+-- a recording of the first outcome that has what a condition says
+abbrev pub IsShown : Parts → ℕ → List ℕ → Answer → Type 0
+IsShown p states text answer =
+    (seen : List Observation) × (condition_of p text ≡ Ok seen) × IsShowAnswer p states seen answer
+
 -- the answer to a question about the outcomes of a program
 abbrev pub IsQuestionAnswer : (List ℕ → Option (List ℕ)) → Parts → ℕ → Question → Answer → Type 0
 IsQuestionAnswer inputs p states All answer = IsOutcomesAnswer p states answer
@@ -44,6 +75,7 @@ IsQuestionAnswer inputs p states (Exists items) answer =
     IsConditioned p states condition.Exists (string_bytes items) answer
 IsQuestionAnswer inputs p states (Never items) answer =
     IsConditioned p states condition.Never (string_bytes items) answer
+IsQuestionAnswer inputs p states (Show items) answer = IsShown p states (string_bytes items) answer
 
 -- the answer of outcomes
 abbrev pub IsOutcomes : (List ℕ → Option (List ℕ)) → OutcomesOptions → Answer → Type 0
@@ -72,6 +104,7 @@ IsQuestionStop inputs All stop p = stop ≡ Failed OutOfMemory
 IsQuestionStop inputs (Observed file whole) stop p = IsLogStop inputs (string_bytes file) stop p
 IsQuestionStop inputs (Exists items) stop p = IsConditionStop (string_bytes items) stop p
 IsQuestionStop inputs (Never items) stop p = IsConditionStop (string_bytes items) stop p
+IsQuestionStop inputs (Show items) stop p = IsConditionStop (string_bytes items) stop p
 
 -- why outcomes stops: its program does, or the question about it
 abbrev pub IsOutcomesStop : (List ℕ → Option (List ℕ)) → OutcomesOptions → CommandStop → Type 0

@@ -3,9 +3,10 @@ ghost use Rattle.std.specs.Prelude.{◌≡◌, ◌∷◌, [], IfErr, IfOk, Ok, s
 ghost use Rattle.inputs.specs.Inputs.{CanRead, ReadsNamed};
 ghost use Rattle.outcome_texts.specs.ObservedLine.{condition_of};
 ghost use Rattle.commands.specs.Outcomes.{IsConditionStop, IsConditioned, IsLogAt, IsLogStop, IsOutcomes};
-ghost use Rattle.commands.specs.Outcomes.{IsOutcomesStop, IsQuestionAnswer, IsQuestionStop, item_line};
+ghost use Rattle.commands.specs.Outcomes.{IsOutcomesStop, IsQuestionAnswer, IsQuestionStop, IsShown, item_line};
 ghost use Rattle.commands.specs.Outcomes.{question_names};
 
+use crate::shown_outcome::show_answer;
 use answers::{Condition, condition_answer, log_answer, outcomes_answer};
 use command_line::{OutcomesOptions, Question};
 use devices::Host;
@@ -69,6 +70,20 @@ fn conditioned(
     Ok(condition_answer(alloc, program, states, condition, &seen)?)
 }
 
+/// How the first outcome of a program comes about that has what a condition says.
+fn shown(
+    alloc: Global,
+    program: &Program,
+    states: usize,
+    text: &str,
+) -> Result<Answer, CommandStop>
+    ensures ok { IfOk result (IsShown program.now states text.now) }
+    ensures err { IfErr result (λ stop. IsConditionStop text.now stop program.now) }
+{
+    let seen = items_of(alloc, program, text)?;
+    Ok(show_answer(alloc, program, states, &seen)?)
+}
+
 /// The answer to a question about the outcomes of a program.
 fn question_answer<H: Host>(
     alloc: Global,
@@ -95,6 +110,7 @@ fn question_answer<H: Host>(
         Question::Never(items) => {
             conditioned(alloc, program, states, Condition::Never, items.as_str())
         }
+        Question::Show(items) => shown(alloc, program, states, items.as_str()),
     }
 }
 
