@@ -50,8 +50,8 @@ class Program:
 
         yield from extended([], list(range(count)))
 
-    def outcome(self, order):
-        """What is read in an order, each the last write in it that is before the read in it, or before it on its core; and the last values."""
+    def performed(self, order):
+        """What is read in an order, with its source: the last write in it that is before the read in it, or before it on its core; and what is written."""
         place, events = {e: i for i, e in enumerate(order)}, self.events
         written = {e: (op[1], op[2]) for e, (_, op) in enumerate(events) if op[0] == "st"}
         read = {}
@@ -60,19 +60,38 @@ class Program:
             if op[0] not in READS:
                 continue
             seen = [w for w, (a, _) in written.items() if a == op[1] and w != e and (place[w] < place[e] or (events[w][0] == core and w < e))]
-            value = written[max(seen, key=place.get)][1] if seen else self.init[op[1]]
-            read[e] = value
+            source = max(seen, key=place.get) if seen else None
+            value = self.init[op[1]] if source is None else written[source][1]
+            read[e] = value, source
             if op[0] == "swap":
                 written[e] = (op[1], op[2])
             elif op[0] == "add":
                 written[e] = (op[1], (value + op[2]) % MODULUS)
             elif op[0] == "cas" and value == op[2]:
                 written[e] = (op[1], op[3])
+        return read, written
+
+    def outcome(self, order):
+        """What is read in an order, and the last values."""
+        read, written = self.performed(order)
         last = list(self.init)
         for e in order:
             if e in written:
                 last[written[e][0]] = written[e][1]
-        return tuple(read[e] for e in sorted(read)), tuple(last)
+        return tuple(read[e][0] for e in sorted(read)), tuple(last)
+
+    def recording(self, order):
+        """The recording that an order makes."""
+        read, written = self.performed(order)
+        cores = [[] for _ in self.cores]
+        for e, (core, op) in enumerate(self.events):
+            kind = "F" if op[0] == "fence" else "R" if e in read and e in written else "S" if e in written else "L" if op[0] == "ld" else "C"
+            it = {"k": kind} | ({} if kind == "F" else {"a": op[1]})
+            it |= {"r": read[e][0], "s": read[e][1]} if e in read else {}
+            cores[core].append(it | ({"w": written[e][1]} if e in written else {}))
+        writes = [[e for e in order if e in written and written[e][0] == a] for a in range(len(self.names))]
+        is_second = any(self.init) or any(it["k"] == "C" for core in cores for it in core)
+        return {"cores": cores, "writes": writes} | ({"version": 2, "init": self.init} if is_second else {"version": 1})
 
     def keys(self):
         """The names of all items of an outcome."""
@@ -169,11 +188,33 @@ def reported(text, log, whole):
     return 2 if forbidden else 0, out
 
 
+def condition_items(program, condition):
+    """The items of a condition on a program."""
+    return said(re.split(r"[ \t\r]+", condition.replace("/\\", " ").strip(" \t\r")) if condition.strip(" \t\r") else [], program.keys(), False)
+
+
+def is_shown(program, text, condition):
+    """Whether a program shows the first outcome with the items of a condition: a recording that some order with it makes, after its replay."""
+    it = Program(text)
+    shown = answer(program, ["-", "--show", condition], text)
+    try:
+        items = condition_items(it, condition)
+    except Refused as refused:
+        return shown == (3, f"refused: O2 item {refused.args[0]}\n")
+    first = next((outcome for outcome in it.outcomes() if shows(outcome, items)), None)
+    if first is None:
+        return shown == (2, "No\n")
+    recording = shown[1].splitlines()[-1] + "\n"
+    replay = subprocess.run([program, "replay", "-"], input=recording.encode(), stdout=subprocess.PIPE, timeout=60)
+    made = (it.recording(order) for order in it.orders() if dict(zip(it.keys(), sum(it.outcome(order), ()))) == first)
+    return shown == (0, replay.stdout.decode() + "\n" + recording) and replay.returncode == 0 and any(x == json.loads(recording) for x in made)
+
+
 def conditioned(text, condition, wanted):
     """The status and the text of what is answered to a condition on a program; what is wanted is whether some outcome has the items."""
     program = Program(text)
     try:
-        items = said(re.split(r"[ \t\r]+", condition.replace("/\\", " ").strip(" \t\r")) if condition.strip(" \t\r") else [], program.keys(), False)
+        items = condition_items(program, condition)
     except Refused as refused:
         return 3, f"refused: O2 item {refused.args[0]}\n"
     holds = any(shows(it, items) for it in program.outcomes()) == wanted
@@ -235,7 +276,7 @@ def answer(program, words, text):
 
 
 def is_answered(program, text, dice, folder):
-    """Whether a program answers of a litmus program, of a log and of two conditions what is answered here."""
+    """Whether a program answers of a litmus program, of a log and of three conditions what is answered here."""
     log, path = made_log(dice, text), Path(folder) / "log"
     path.write_bytes(log.encode())
     whole, condition = dice.random() < 0.5, made_condition(dice, text)
@@ -244,6 +285,7 @@ def is_answered(program, text, dice, folder):
         and answer(program, ["-", "--observed", str(path), *(["--unseen"] if whole else [])], text) == reported(text, log, whole)
         and answer(program, ["-", "--exists", condition], text) == conditioned(text, condition, True)
         and answer(program, ["-", "--never", condition], text) == conditioned(text, condition, False)
+        and is_shown(program, text, condition)
     )
 
 
@@ -257,13 +299,13 @@ def of_programs(program, seed, count):
 
 
 def is_classic_right(program, file):
-    """Whether the outcome of a classic test's recording is allowed exactly where its verdict is an order."""
+    """Whether the outcome of a classic test's recording is allowed, and shown, exactly where its verdict is an order."""
     items, last = asked(file.with_suffix(".json").read_text())
     names = Program(file.read_text()).names
     items |= {f"[{name}]": value for name, value in zip(names, last)}
     is_allowed = file.with_suffix(".verdict").read_text().startswith("ordered:")
     wanted = (0, "Yes\n") if is_allowed else (2, "No\n")
-    return answer(program, [str(file), "--exists", items_text(items)], "") == wanted
+    return answer(program, [str(file), "--exists", items_text(items)], "") == wanted and is_shown(program, file.read_text(), items_text(items))
 
 
 def main():
