@@ -1,1 +1,2 @@
+pub mod Names
 pub mod Events

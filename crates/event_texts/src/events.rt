@@ -4,33 +4,29 @@ ghost use Rattle.std.specs.Prelude.{◌≡◌, ◌++◌, ◌∷◌, OnOk, Some, 
 ghost use Rattle.recording.specs.declared.event.Event.TheVariants.{L, S, R, C};
 ghost use Rattle.event_texts.specs.Events.{address_text, written_text, source_text, read_text, event_text};
 
+use crate::names::Names;
 use common::{Addr, EventId, OutOfMemory};
-use indexmap::IndexSet;
-use program::Name;
 use recording::Event;
 use texts::{put_text, put_text_and_number};
 
 /// Adds the name of an address.
 pub fn put_address(
     out: &mut Vec<u8>,
-    names: &IndexSet<Name>,
+    names: &Names,
     address: Addr,
 ) -> Result<(), OutOfMemory>
-    ensures { OnOk result (out.new.items ≡ out.old.items ++ address_text names.now.keys address) }
+    ensures { OnOk result (out.new.items ≡ out.old.items ++ address_text names.now address) }
 {
-    let Some(name) = names.get_index(address as usize) else {
-        return Ok(());
-    };
-    put_text(out, name.text())
+    put_text(out, names.address(address))
 }
 
 /// Adds the name of the address that an event writes.
 pub fn put_written(
     out: &mut Vec<u8>,
-    names: &IndexSet<Name>,
+    names: &Names,
     address: Option<Addr>,
 ) -> Result<(), OutOfMemory>
-    ensures { OnOk result (out.new.items ≡ out.old.items ++ written_text names.now.keys address) }
+    ensures { OnOk result (out.new.items ≡ out.old.items ++ written_text names.now address) }
 {
     match address {
         Some(address) => put_address(out, names, address),
@@ -51,10 +47,10 @@ fn put_source(out: &mut Vec<u8>, source: Option<EventId>) -> Result<(), OutOfMem
 /// Adds an address that was read, the value, and where it came from.
 fn put_read(
     out: &mut Vec<u8>,
-    names: &IndexSet<Name>,
+    names: &Names,
     read: (Addr, u32, Option<EventId>),
 ) -> Result<(), OutOfMemory>
-    ensures { OnOk result (out.new.items ≡ out.old.items ++ read_text names.now.keys read.0 read.1 read.2) }
+    ensures { OnOk result (out.new.items ≡ out.old.items ++ read_text names.now read.0 read.1 read.2) }
 {
     let (address, value, source) = read;
     put_address(out, names, address)?;
@@ -66,10 +62,10 @@ fn put_read(
 #[tactic(auto, unfolding(crate::specs::Events::event_text))]
 pub fn put_event(
     out: &mut Vec<u8>,
-    names: &IndexSet<Name>,
+    names: &Names,
     event: &Event,
 ) -> Result<(), OutOfMemory>
-    ensures { OnOk result (out.new.items ≡ out.old.items ++ event_text names.now.keys event.now) }
+    ensures { OnOk result (out.new.items ≡ out.old.items ++ event_text names.now event.now) }
 {
     match event {
         Event::L { a, r, s } => {

@@ -3,6 +3,8 @@
 
 mod events;
 mod lines;
+mod names;
 
 pub use events::{put_address, put_event, put_written};
 pub use lines::{event_of, put_before, put_indent, put_line};
+pub use names::Names;

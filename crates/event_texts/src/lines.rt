@@ -3,12 +3,11 @@
 ghost use Rattle.std.specs.Prelude.{◌≡◌, ◌++◌, OnOk, codes, decimal};
 ghost use Rattle.recording.specs.Execution.{event_at, core_of};
 ghost use Rattle.texts.specs.Numbers.{aligned};
-ghost use Rattle.event_texts.specs.Events.{event_width, core_width, event_line, indent};
+ghost use Rattle.event_texts.specs.Events.{event_width, core_width, event_line, indent, label_text};
 
 use crate::events::put_event;
+use crate::names::Names;
 use common::{CoreId, EventId, OutOfMemory};
-use indexmap::IndexSet;
-use program::Name;
 use recording::{Event, Recording};
 use texts::{digits, put_aligned, put_spaces, put_text, put_text_and_number};
 
@@ -37,15 +36,27 @@ pub fn event_of(recording: &Recording, number: EventId) -> (CoreId, Event)
     }
 }
 
+/// Adds a label, after what its event did.
+#[tactic(auto, unfolding(crate::specs::Events::label_text))]
+fn put_label(out: &mut Vec<u8>, label: &[u8]) -> Result<(), OutOfMemory>
+    ensures { OnOk result (out.new.items ≡ out.old.items ++ label_text label.now) }
+{
+    if label.is_empty() {
+        return Ok(());
+    }
+    put_text(out, b"  # ")?;
+    put_text(out, label)
+}
+
 /// Adds the line of an event.
 #[tactic(auto, unfolding(crate::specs::Events::event_line))]
 pub fn put_line(
     out: &mut Vec<u8>,
     recording: &Recording,
-    names: &IndexSet<Name>,
+    names: &Names,
     number: EventId,
 ) -> Result<(), OutOfMemory>
-    ensures { OnOk result (out.new.items ≡ out.old.items ++ event_line recording.now names.now.keys number) }
+    ensures { OnOk result (out.new.items ≡ out.old.items ++ event_line recording.now names.now number) }
 {
     let (core, event) = event_of(recording, number);
     put_text(out, b"  ")?;
@@ -54,6 +65,7 @@ pub fn put_line(
     put_aligned(out, core_width(recording), core as usize)?;
     put_text(out, b"  ")?;
     put_event(out, names, &event)?;
+    put_label(out, names.label(number))?;
     put_text(out, b"\n")
 }
 

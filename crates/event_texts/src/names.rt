@@ -1,0 +1,61 @@
+//! What the addresses and the events of a recording are called.
+
+use common::{Addr, EventId};
+use indexmap::IndexSet;
+use program::Name;
+use std::marker::Model;
+
+/// The names of the addresses of a recording, and the labels of its events.
+#[derive(Drop)]
+pub struct Names {
+    addresses: IndexSet<Name>,
+    labels: Vec<Vec<u8>>,
+}
+
+impl Model for Names {
+    ghost use Rattle.std.specs.Prelude.{map};
+    ghost use Rattle.event_texts.specs.Names as spec;
+
+    ghost Value = { spec.Names };
+
+    ghost view = { λ n. record {
+      addresses = n.addresses.keys;
+      labels = map (λ label. label.items) n.labels.items;
+    } };
+}
+
+impl Names {
+    ghost use Rattle.std.specs.Prelude.{◌≡◌, map};
+    ghost use Rattle.program.specs.Names.{name_text};
+    ghost use Rattle.program.specs.Spelling.{name_at};
+    ghost use Rattle.event_texts.specs.Names.{label_of};
+
+    /// These names of addresses, in their order, and these labels of events, in the order of their numbers. An event has
+    /// none where its label is empty, as past the last label.
+    pub fn new(addresses: IndexSet<Name>, labels: Vec<Vec<u8>>) -> Names
+        ensures addresses { result.addresses ≡ addresses.keys }
+        ensures labels { result.labels ≡ map (λ label. label.items) labels.items }
+    {
+        Names { addresses, labels }
+    }
+
+    /// The name of an address; empty past the last.
+    pub(crate) fn address(&self, address: Addr) -> &[u8]
+        ensures { result.now ≡ name_text (name_at self.now.addresses address) }
+    {
+        match self.addresses.get_index(address as usize) {
+            Some(name) => name.text(),
+            None => &[],
+        }
+    }
+
+    /// The label of an event; empty where it has none.
+    pub fn label(&self, number: EventId) -> &[u8]
+        ensures { result.now ≡ label_of self.now number }
+    {
+        if number as usize >= self.labels.len() {
+            return &[];
+        }
+        self.labels[number as usize].as_slice()
+    }
+}
