@@ -2,7 +2,7 @@
 use Rattle.std.specs.Prelude.{◌≡◌, ◌++◌, [], ℕ, Bool, true, false, List, Option, Some, None, codes, decimal, length}
 use Rattle.std.specs.Prelude.{slice_index, if◌then◌else◌}
 use Rattle.std.specs.List.{flat_map}
-use Rattle.program.specs.declared.name.Name.{Name}
+use Rattle.event_texts.specs.Names.{Names}
 use Rattle.recording.specs.Execution.{Execution, event_count}
 use Rattle.relations.specs.declared.reason.Reason.{Reason}
 use Rattle.relations.specs.declared.reason.Reason.TheVariants.{Po, Wo, Rf, Fr}
@@ -67,19 +67,19 @@ graph_heading = codes "digraph recording {\n  node [shape=\"plaintext\"];\n  new
     ++ codes "  top [shape=\"point\", style=\"invis\"];\n"
 
 -- the lines of the nodes, and what puts them in their places
-unfoldable pub nodes_text : Execution → List Name → List ℕ → Execution → Bool → Verdict → List ℕ
+unfoldable pub nodes_text : Execution → Names → List ℕ → Execution → Bool → Verdict → List ℕ
 nodes_text x names ks y ranked v = graph_heading ++ texts_below (cluster_text x names ks y ranked) (length x.cores)
     ++ top_line x ks ranked ++ ranks_text x ks v
 
 -- the picture of a verdict on y with these edges bold; event i of y is event `ks i` of x
-abbrev pub drawing_text : Execution → List Name → List ℕ → Execution → Verdict → List Edge → List ℕ
+abbrev pub drawing_text : Execution → Names → List ℕ → Execution → Verdict → List Edge → List ℕ
 drawing_text x names ks y v bold = nodes_text x names ks y (is_ranked v) v
     ++ texts_below (thin_lines y ks (is_ranked v) bold) (event_count y)
     ++ (flat_map (edge_line ks (is_ranked v) true) bold ++ codes "}\n")
 
 -- the text is a picture of the verdict on y, whose events have the numbers ks in x, with these names of the
 -- addresses of x
-pub record IsDrawing (x : Execution) (names : List Name) (ks : List ℕ) (y : Execution) (v : Verdict)
+pub record IsDrawing (x : Execution) (names : Names) (ks : List ℕ) (y : Execution) (v : Verdict)
     (text : List ℕ) : Type 0 where
   pub bold : List Edge
   pub about : AreBold y v bold

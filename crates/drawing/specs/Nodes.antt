@@ -1,8 +1,8 @@
 -- The events of a picture: a cluster for each core that has a drawn event.
-use Rattle.std.specs.Prelude.{◌++◌, ◌==◌, [], ℕ, Bool, true, false, Option, List, codes, decimal, is_some}
+use Rattle.std.specs.Prelude.{◌++◌, ◌==◌, ◌∷◌, [], ℕ, Bool, true, false, Option, List, codes, decimal, is_some, length}
 use Rattle.std.specs.Prelude.{slice_index, if◌then◌else◌}
-use Rattle.std.specs.List.{find}
-use Rattle.program.specs.declared.name.Name.{Name}
+use Rattle.std.specs.List.{find, flat_map}
+use Rattle.event_texts.specs.Names.{Names, label_of}
 use Rattle.recording.specs.declared.event.Event.{Event}
 use Rattle.recording.specs.Execution.{Execution, event_count, event_at, core_of}
 use Rattle.texts.specs.Below.{texts_below}
@@ -18,17 +18,26 @@ first_on_core x ks c = find (λ k. core_of x k == c) ks
 abbrev pub node_heading : ℕ → List ℕ
 node_heading e = codes "    e" ++ decimal e ++ codes " [label=\"" ++ decimal e ++ codes ": "
 
--- the line of an event
-abbrev pub node_line : List Name → ℕ → Event → List ℕ
-node_line names e event = node_heading e ++ event_text names event ++ codes "\"];\n"
+-- a byte of a label, as a string of DOT has it
+abbrev pub escaped : ℕ → List ℕ
+escaped b = if b == 34 then codes "\\\"" else (if b == 92 then codes "\\\\"
+    else (if b == 38 then codes "&amp;" else b ∷ []))
+
+-- a label as a line of its node
+unfoldable pub node_label : List ℕ → List ℕ
+node_label label = if length label == 0 then [] else codes "\\n" ++ flat_map escaped label
+
+-- the line of an event, with its label
+abbrev pub node_line : Names → ℕ → Event → List ℕ
+node_line names e event = node_heading e ++ event_text names event ++ node_label (label_of names e) ++ codes "\"];\n"
 
 -- the line of event i of y, which is event `ks i` of x, and of what is left out after it
-abbrev pub node_lines : Execution → List Name → List ℕ → Execution → ℕ → List ℕ
+abbrev pub node_lines : Execution → Names → List ℕ → Execution → ℕ → List ℕ
 node_lines x names ks y i = node_line names (slice_index ks i) (event_at x (slice_index ks i))
     ++ gap_text ks (po_edge y i)
 
 -- these lines, if the event is one of this core
-unfoldable pub node_of_core : Execution → List Name → List ℕ → Execution → ℕ → ℕ → List ℕ
+unfoldable pub node_of_core : Execution → Names → List ℕ → Execution → ℕ → ℕ → List ℕ
 node_of_core x names ks y c i = if core_of x (slice_index ks i) == c then node_lines x names ks y i else []
 
 -- the first lines of a core
@@ -42,11 +51,11 @@ head_line true c = codes "    h" ++ decimal c ++ codes " [shape=\"point\", style
 head_line false c = []
 
 -- the lines of a core
-abbrev pub cluster_lines : Execution → List Name → List ℕ → Execution → Bool → ℕ → List ℕ
+abbrev pub cluster_lines : Execution → Names → List ℕ → Execution → Bool → ℕ → List ℕ
 cluster_lines x names ks y ranked c = cluster_heading c ++ head_line ranked c
     ++ texts_below (node_of_core x names ks y c) (event_count y) ++ codes "  }\n"
 
 -- the lines of a core that has a drawn event
-unfoldable pub cluster_text : Execution → List Name → List ℕ → Execution → Bool → ℕ → List ℕ
+unfoldable pub cluster_text : Execution → Names → List ℕ → Execution → Bool → ℕ → List ℕ
 cluster_text x names ks y ranked c = if is_some (first_on_core x ks c)
     then cluster_lines x names ks y ranked c else []

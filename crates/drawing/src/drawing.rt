@@ -12,8 +12,7 @@ use crate::edges::Edge;
 use crate::nodes::put_clusters;
 use crate::ranks::{put_ranks, put_top};
 use common::{EventId, OutOfMemory};
-use indexmap::IndexSet;
-use program::Name;
+use event_texts::Names;
 use recording::Recording;
 use std::alloc::Global;
 use texts::put_text;
@@ -45,14 +44,14 @@ fn put_heading(out: &mut Vec<u8>) -> Result<(), OutOfMemory>
 fn put_picture_nodes(
     out: &mut Vec<u8>,
     recording: &Recording,
-    names: &IndexSet<Name>,
+    names: &Names,
     numbers: &[EventId],
     rest: &Recording,
     ranked: bool,
     verdict: &Verdict,
 ) -> Result<(), OutOfMemory>
     ensures { OnOk result (out.new.items ≡ out.old.items
-        ++ nodes_text recording.now names.now.keys numbers.now rest.now ranked verdict.now) }
+        ++ nodes_text recording.now names.now numbers.now rest.now ranked verdict.now) }
 {
     put_heading(out)?;
     put_clusters(out, recording, names, numbers, rest, ranked)?;
@@ -78,14 +77,14 @@ fn put_end(
 fn put_drawing(
     out: &mut Vec<u8>,
     recording: &Recording,
-    names: &IndexSet<Name>,
+    names: &Names,
     numbers: &[EventId],
     rest: &Recording,
     verdict: &Verdict,
     bold: &[Edge],
 ) -> Result<(), OutOfMemory>
     ensures { OnOk result (out.new.items ≡ out.old.items
-        ++ drawing_text recording.now names.now.keys numbers.now rest.now verdict.now bold.now) }
+        ++ drawing_text recording.now names.now numbers.now rest.now verdict.now bold.now) }
 {
     let ranked = is_ranked(verdict);
     put_picture_nodes(out, recording, names, numbers, rest, ranked, verdict)?;
@@ -109,14 +108,14 @@ fn put_drawing(
 pub fn drawing_text(
     alloc: Global,
     recording: &Recording,
-    names: &IndexSet<Name>,
+    names: &Names,
     numbers: &[EventId],
     rest: &Recording,
     verdict: &Verdict,
 ) -> Result<Vec<u8>, OutOfMemory>
     requires { Verifies rest.now verdict.now }
     ensures { IfOk result (λ text.
-        IsDrawing recording.now names.now.keys numbers.now rest.now verdict.now text.items) }
+        IsDrawing recording.now names.now numbers.now rest.now verdict.now text.items) }
 {
     let bold = bold_edges(alloc, rest, verdict)?;
     let mut out = Vec::new(alloc);

@@ -1,17 +1,16 @@
 //! The events of a picture, a cluster for each core that has a drawn event.
 
 ghost use Rattle.std.specs.Prelude.{◌≡◌, ◌++◌, ◌<◌, OnOk, length, slice_index};
+ghost use Rattle.std.specs.List.{flat_map};
 ghost use Rattle.recording.specs.Execution.{event_count, event_at};
 ghost use Rattle.texts.specs.Below.{texts_below};
-ghost use Rattle.drawing.specs.Nodes.{first_on_core, node_heading, node_line, node_lines};
+ghost use Rattle.drawing.specs.Nodes.{escaped, first_on_core, node_heading, node_label, node_line, node_lines};
 ghost use Rattle.drawing.specs.Nodes.{node_of_core, cluster_heading, head_line, cluster_lines, cluster_text};
 
 use crate::edges::po_edge;
 use crate::gaps::{number_at, put_gap_text};
 use common::{EventId, OutOfMemory};
-use event_texts::{event_of, put_event};
-use indexmap::IndexSet;
-use program::Name;
+use event_texts::{Names, event_of, put_event};
 use recording::{Event, Recording};
 use texts::{put_text, put_text_and_number};
 
@@ -38,17 +37,56 @@ fn put_node_heading(out: &mut Vec<u8>, number: EventId) -> Result<(), OutOfMemor
     put_text(out, b": ")
 }
 
+/// Adds a byte of a label, as a string of DOT has it.
+fn put_escaped(out: &mut Vec<u8>, byte: u8) -> Result<(), OutOfMemory>
+    ensures { OnOk result (out.new.items ≡ out.old.items ++ escaped byte) }
+{
+    if byte == b'"' {
+        return put_text(out, b"\\\"");
+    }
+    if byte == b'\\' {
+        return put_text(out, b"\\\\");
+    }
+    if byte == b'&' {
+        return put_text(out, b"&amp;");
+    }
+    put_text(out, &[byte])
+}
+
+/// Adds a label, as a string of DOT has it.
+fn put_escaped_label(out: &mut Vec<u8>, label: &[u8]) -> Result<(), OutOfMemory>
+    ensures { OnOk result (out.new.items ≡ out.old.items ++ flat_map escaped label.now) }
+{
+    for byte in label {
+        put_escaped(out, *byte)?;
+    }
+    Ok(())
+}
+
+/// Adds a label as a line of its node.
+#[tactic(auto, unfolding(crate::specs::Nodes::node_label))]
+fn put_node_label(out: &mut Vec<u8>, label: &[u8]) -> Result<(), OutOfMemory>
+    ensures { OnOk result (out.new.items ≡ out.old.items ++ node_label label.now) }
+{
+    if label.is_empty() {
+        return Ok(());
+    }
+    put_text(out, b"\\n")?;
+    put_escaped_label(out, label)
+}
+
 /// Adds the line of an event.
 fn put_node(
     out: &mut Vec<u8>,
-    names: &IndexSet<Name>,
+    names: &Names,
     number: EventId,
     event: &Event,
 ) -> Result<(), OutOfMemory>
-    ensures { OnOk result (out.new.items ≡ out.old.items ++ node_line names.now.keys number event.now) }
+    ensures { OnOk result (out.new.items ≡ out.old.items ++ node_line names.now number event.now) }
 {
     put_node_heading(out, number)?;
     put_event(out, names, event)?;
+    put_node_label(out, names.label(number))?;
     put_text(out, b"\"];\n")
 }
 
@@ -57,14 +95,14 @@ fn put_node(
 fn put_node_of_core(
     out: &mut Vec<u8>,
     recording: &Recording,
-    names: &IndexSet<Name>,
+    names: &Names,
     numbers: &[EventId],
     rest: &Recording,
     core: usize,
     i: EventId,
 ) -> Result<(), OutOfMemory>
     ensures { OnOk result (out.new.items ≡ out.old.items
-        ++ node_of_core recording.now names.now.keys numbers.now rest.now core i) }
+        ++ node_of_core recording.now names.now numbers.now rest.now core i) }
 {
     let number = number_at(numbers, i);
     let (own, event) = event_of(recording, number);
@@ -79,13 +117,13 @@ fn put_node_of_core(
 fn put_nodes(
     out: &mut Vec<u8>,
     recording: &Recording,
-    names: &IndexSet<Name>,
+    names: &Names,
     numbers: &[EventId],
     rest: &Recording,
     core: usize,
 ) -> Result<(), OutOfMemory>
     ensures { OnOk result (out.new.items ≡ out.old.items
-        ++ texts_below (node_of_core recording.now names.now.keys numbers.now rest.now core)
+        ++ texts_below (node_of_core recording.now names.now numbers.now rest.now core)
         (event_count rest.now)) }
 {
     rest.sound();
@@ -120,14 +158,14 @@ fn put_head(out: &mut Vec<u8>, ranked: bool, core: usize) -> Result<(), OutOfMem
 fn put_cluster_lines(
     out: &mut Vec<u8>,
     recording: &Recording,
-    names: &IndexSet<Name>,
+    names: &Names,
     numbers: &[EventId],
     rest: &Recording,
     ranked: bool,
     core: usize,
 ) -> Result<(), OutOfMemory>
     ensures { OnOk result (out.new.items ≡ out.old.items
-        ++ cluster_lines recording.now names.now.keys numbers.now rest.now ranked core) }
+        ++ cluster_lines recording.now names.now numbers.now rest.now ranked core) }
 {
     put_cluster_heading(out, core)?;
     put_head(out, ranked, core)?;
@@ -140,14 +178,14 @@ fn put_cluster_lines(
 fn put_cluster(
     out: &mut Vec<u8>,
     recording: &Recording,
-    names: &IndexSet<Name>,
+    names: &Names,
     numbers: &[EventId],
     rest: &Recording,
     ranked: bool,
     core: usize,
 ) -> Result<(), OutOfMemory>
     ensures { OnOk result (out.new.items ≡ out.old.items
-        ++ cluster_text recording.now names.now.keys numbers.now rest.now ranked core) }
+        ++ cluster_text recording.now names.now numbers.now rest.now ranked core) }
 {
     if first_on_core(recording, numbers, core).is_some() {
         put_cluster_lines(out, recording, names, numbers, rest, ranked, core)
@@ -160,13 +198,13 @@ fn put_cluster(
 pub(crate) fn put_clusters(
     out: &mut Vec<u8>,
     recording: &Recording,
-    names: &IndexSet<Name>,
+    names: &Names,
     numbers: &[EventId],
     rest: &Recording,
     ranked: bool,
 ) -> Result<(), OutOfMemory>
     ensures { OnOk result (out.new.items ≡ out.old.items
-        ++ texts_below (cluster_text recording.now names.now.keys numbers.now rest.now ranked)
+        ++ texts_below (cluster_text recording.now names.now numbers.now rest.now ranked)
         (length recording.now.cores)) }
 {
     for core in 0..recording.cores().len() {

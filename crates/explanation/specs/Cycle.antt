@@ -1,7 +1,7 @@
 -- A cycle in words: each of its events, and why it comes before the next.
 use Rattle.std.specs.Prelude.{◌≡◌, ◌++◌, ◌∷◌, [], ℕ, zero, suc, List, Some, codes, decimal, length}
 use Rattle.std.specs.Prelude.{slice_index}
-use Rattle.program.specs.declared.name.Name.{Name}
+use Rattle.event_texts.specs.Names.{Names}
 use Rattle.recording.specs.Event.{written_address}
 use Rattle.recording.specs.Execution.{Execution, event_at}
 use Rattle.relations.specs.declared.reason.Reason.{Reason}
@@ -19,18 +19,18 @@ reason_text Rf address = codes ", which read it"
 reason_text Fr address = codes ", which wrote a newer value of " ++ address
 
 -- the line that says why an event comes before event f
-unfoldable pub reason_line : Execution → List Name → ℕ → Reason → List ℕ
+unfoldable pub reason_line : Execution → Names → ℕ → Reason → List ℕ
 reason_line x names f reason = indent x ++ (codes "before " ++ decimal f)
     ++ reason_text reason (written_text names (written_address (event_at x f))) ++ 10 ∷ []
 
 -- the lines of an event that comes before f, with the first reason that holds
-pub record IsLink (x : Execution) (names : List Name) (e f : ℕ) (text : List ℕ) : Type 0 where
+pub record IsLink (x : Execution) (names : Names) (e f : ℕ) (text : List ℕ) : Type 0 where
   pub reason : Reason
   pub first : IsReason x e f (Some reason)
   pub lines : text ≡ event_line x names e ++ reason_line x names f reason
 
 -- the lines of the first n events of a cycle, each with the event after it
-abbrev pub AreLinks : Execution → List Name → List ℕ → ℕ → List ℕ → Type 0
+abbrev pub AreLinks : Execution → Names → List ℕ → ℕ → List ℕ → Type 0
 AreLinks x names c zero text = text ≡ []
 AreLinks x names c (suc i) text = (before link : List ℕ) × AreLinks x names c i before
     × IsLink x names (slice_index c i) (next_in_cycle c i) link × (text ≡ before ++ link)
@@ -41,7 +41,7 @@ cycle_heading n = codes "No memory order explains this recording: these " ++ dec
     ++ (codes " events would each come before the next." ++ 10 ∷ [])
 
 -- a cycle in words, and in those of diy
-pub record SaysCycle (x : Execution) (names : List Name) (c text : List ℕ) : Type 0 where
+pub record SaysCycle (x : Execution) (names : Names) (c text : List ℕ) : Type 0 where
   pub links : List ℕ
   pub lines : AreLinks x names c (length c) links
   pub line : List ℕ

@@ -1,6 +1,6 @@
 -- A verdict in words.
 use Rattle.std.specs.Prelude.{◌≡◌, ℕ, List}
-use Rattle.program.specs.declared.name.Name.{Name}
+use Rattle.event_texts.specs.Names.{Names}
 use Rattle.recording.specs.Execution.{Execution}
 use Rattle.verdicts.specs.declared.verdict.Verdict.{Verdict}
 use Rattle.verdicts.specs.declared.verdict.Verdict.TheVariants.{Ordered, Overlook, Cycle}
@@ -9,7 +9,7 @@ use Rattle.explanation.specs.Overlook.{overlook_text}
 use Rattle.explanation.specs.Cycle.{SaysCycle}
 
 -- the text says the verdict on an execution in words, with these names of its addresses
-abbrev pub IsExplanation : Execution → List Name → Verdict → List ℕ → Type 0
+abbrev pub IsExplanation : Execution → Names → Verdict → List ℕ → Type 0
 IsExplanation x names (Ordered m) text = text ≡ order_text x names m.items
 IsExplanation x names (Overlook l s) text = text ≡ overlook_text x names l s
 IsExplanation x names (Cycle c) text = SaysCycle x names c.cycle.items text

@@ -1,6 +1,6 @@
 -- An overlook in words: the store, the load, and what the load read instead.
 use Rattle.std.specs.Prelude.{◌++◌, ◌∷◌, [], ℕ, List, Option, Some, None, codes, decimal}
-use Rattle.program.specs.declared.name.Name.{Name}
+use Rattle.event_texts.specs.Names.{Names}
 use Rattle.recording.specs.Event.{written_address}
 use Rattle.recording.specs.Execution.{Execution, event_at, source_of}
 use Rattle.explanation.specs.Diy.{diy_overlook_line}
@@ -16,14 +16,14 @@ abbrev pub store_line : Execution → ℕ → List ℕ
 store_line x l = indent x ++ (codes "before " ++ decimal l) ++ (codes " in program order" ++ 10 ∷ [])
 
 -- the lines that say what was read instead: an older write, or the initial value
-abbrev pub instead_lines : Execution → List Name → List ℕ → Option ℕ → List ℕ
+abbrev pub instead_lines : Execution → Names → List ℕ → Option ℕ → List ℕ
 instead_lines x names address None = indent x ++ codes "the initial value is older than each write of "
     ++ address ++ 10 ∷ []
 instead_lines x names address (Some w) = indent x ++ (codes "read it from " ++ decimal w)
     ++ codes ", which is older in the write list of " ++ address ++ 10 ∷ [] ++ event_line x names w
 
 -- an overlook in words, and in those of diy
-abbrev pub overlook_text : Execution → List Name → ℕ → ℕ → List ℕ
+abbrev pub overlook_text : Execution → Names → ℕ → ℕ → List ℕ
 overlook_text x names l s = overlook_heading l s ++ event_line x names s ++ store_line x l
     ++ event_line x names l
     ++ (instead_lines x names (written_text names (written_address (event_at x s))) (source_of x l)

@@ -26,7 +26,7 @@ impl<'a> Named<'a> {
         address: Option<Addr>,
     ) -> Result<(), OutOfMemory>
         ensures { OnOk result (out.new.items ≡ out.old.items
-            ++ reason_text reason (written_text self.now.names.now.keys address)) }
+            ++ reason_text reason (written_text self.now.names.now address)) }
     {
         match reason {
             Reason::Po => { put_text(out, b" in program order") }
@@ -53,7 +53,7 @@ impl<'a> Named<'a> {
     ) -> Result<(), OutOfMemory>
         requires { IsReason self.now.recording.now first second (Some reason) }
         ensures { OnOk result ((link : List ℕ)
-            × IsLink self.now.recording.now self.now.names.now.keys first second link
+            × IsLink self.now.recording.now self.now.names.now first second link
             × (out.new.items ≡ out.old.items ++ link)) }
     {
         put_line(out, self.recording, self.names, first)?;
@@ -73,7 +73,7 @@ impl<'a> Named<'a> {
         requires places { places.now ≡ self.now.recording.now }
         requires cycle { IsCycle (Forced self.now.recording.now) cycle.now }
         ensures { OnOk result ((links : List ℕ)
-            × AreLinks self.now.recording.now self.now.names.now.keys cycle.now (length cycle.now) links
+            × AreLinks self.now.recording.now self.now.names.now cycle.now (length cycle.now) links
             × (out.new.items ≡ out.old.items ++ links)) }
     {
         for i in 0..cycle.len() {
@@ -93,7 +93,7 @@ impl<'a> Named<'a> {
     ) -> Result<(), OutOfMemory>
         requires { IsCycle (Forced self.now.recording.now) cycle.now }
         ensures { OnOk result ((text : List ℕ)
-            × SaysCycle self.now.recording.now self.now.names.now.keys cycle.now text
+            × SaysCycle self.now.recording.now self.now.names.now cycle.now text
             × (out.new.items ≡ out.old.items ++ text)) }
     {
         put_heading(out, cycle.len())?;

@@ -23,7 +23,7 @@ impl<'a> Named<'a> {
         source: Option<EventId>,
     ) -> Result<(), OutOfMemory>
         ensures { OnOk result (out.new.items ≡ out.old.items
-            ++ source_words order.now number (address_text self.now.names.now.keys address) source) }
+            ++ source_words order.now number (address_text self.now.names.now address) source) }
     {
         let Some(source) = source else {
             put_text(out, b"no write of ")?;
@@ -54,7 +54,7 @@ impl<'a> Named<'a> {
         source: Option<EventId>,
     ) -> Result<(), OutOfMemory>
         ensures { OnOk result (out.new.items ≡ out.old.items
-            ++ read_line self.now.recording.now self.now.names.now.keys order.now number address source) }
+            ++ read_line self.now.recording.now self.now.names.now order.now number address source) }
     {
         put_indent(out, self.recording)?;
         self.put_source(out, order, number, address, source)?;
@@ -69,7 +69,7 @@ impl<'a> Named<'a> {
         earlier: EventId,
     ) -> Result<(), OutOfMemory>
         ensures { OnOk result (out.new.items ≡ out.old.items ++ (codes "the next write of "
-            ++ address_text self.now.names.now.keys address ++ (codes " after " ++ decimal earlier))) }
+            ++ address_text self.now.names.now address ++ (codes " after " ++ decimal earlier))) }
     {
         put_text(out, b"the next write of ")?;
         put_address(out, self.names, address)?;
@@ -86,7 +86,7 @@ impl<'a> Named<'a> {
         address: Addr,
     ) -> Result<(), OutOfMemory>
         ensures { OnOk result (out.new.items ≡ out.old.items
-            ++ write_words list.now number (address_text self.now.names.now.keys address)) }
+            ++ write_words list.now number (address_text self.now.names.now address)) }
     {
         let at = place(list, number);
         if at == 0 {
@@ -105,7 +105,7 @@ impl<'a> Named<'a> {
         address: Addr,
     ) -> Result<(), OutOfMemory>
         ensures { OnOk result (out.new.items ≡ out.old.items
-            ++ write_line self.now.recording.now self.now.names.now.keys number address) }
+            ++ write_line self.now.recording.now self.now.names.now number address) }
     {
         put_indent(out, self.recording)?;
         self.put_write(out, self.recording.write_list(address), number, address)?;
@@ -122,7 +122,7 @@ impl<'a> Named<'a> {
         event: Event,
     ) -> Result<(), OutOfMemory>
         ensures { OnOk result (out.new.items ≡ out.old.items
-            ++ lawful_lines self.now.recording.now self.now.names.now.keys order.now number event) }
+            ++ lawful_lines self.now.recording.now self.now.names.now order.now number event) }
     {
         match event {
             Event::L { a, s, .. } => self.put_read_line(out, order, number, a, s),
@@ -147,7 +147,7 @@ impl<'a> Named<'a> {
         number: EventId,
     ) -> Result<(), OutOfMemory>
         ensures { OnOk result (out.new.items ≡ out.old.items
-            ++ placed_lines self.now.recording.now self.now.names.now.keys order.now number) }
+            ++ placed_lines self.now.recording.now self.now.names.now order.now number) }
     {
         put_line(out, self.recording, self.names, number)?;
         let (_, event) = event_of(self.recording, number);
@@ -157,7 +157,7 @@ impl<'a> Named<'a> {
     /// Adds a memory order in words.
     pub(crate) fn put_order(&self, out: &mut Vec<u8>, order: &[EventId]) -> Result<(), OutOfMemory>
         ensures { OnOk result (out.new.items ≡ out.old.items
-            ++ order_text self.now.recording.now self.now.names.now.keys order.now) }
+            ++ order_text self.now.recording.now self.now.names.now order.now) }
     {
         put_text(
             out,

@@ -22,7 +22,7 @@ impl<'a> Named<'a> {
         source: Option<EventId>,
     ) -> Result<(), OutOfMemory>
         ensures { OnOk result (out.new.items ≡ out.old.items ++ instead_lines self.now.recording.now
-            self.now.names.now.keys (written_text self.now.names.now.keys address) source) }
+            self.now.names.now (written_text self.now.names.now address) source) }
     {
         put_indent(out, self.recording)?;
         let Some(source) = source else {
@@ -54,7 +54,7 @@ impl<'a> Named<'a> {
         store: EventId,
     ) -> Result<(), OutOfMemory>
         ensures { OnOk result (out.new.items ≡ out.old.items
-            ++ overlook_text self.now.recording.now self.now.names.now.keys load store) }
+            ++ overlook_text self.now.recording.now self.now.names.now load store) }
     {
         put_heading(out, load, store)?;
         put_line(out, self.recording, self.names, store)?;

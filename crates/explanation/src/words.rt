@@ -6,8 +6,7 @@ ghost use Rattle.explanation.specs.Explanation.{IsExplanation};
 
 use crate::named::Named;
 use common::OutOfMemory;
-use indexmap::IndexSet;
-use program::Name;
+use event_texts::Names;
 use recording::Recording;
 use std::alloc::Global;
 use verdicts::Verdict;
@@ -21,11 +20,11 @@ use verdicts::Verdict;
 pub fn explanation_text(
     alloc: Global,
     recording: &Recording,
-    names: &IndexSet<Name>,
+    names: &Names,
     verdict: &Verdict,
 ) -> Result<Vec<u8>, OutOfMemory>
     requires { Verifies recording.now verdict.now }
-    ensures { IfOk result (λ text. IsExplanation recording.now names.now.keys verdict.now text.items) }
+    ensures { IfOk result (λ text. IsExplanation recording.now names.now verdict.now text.items) }
 {
     let named = Named { recording, names };
     let mut out = Vec::new(alloc);

@@ -4,5 +4,5 @@ use Rattle.drawing.proofs.nodes.put_clusters.Goals as goal
 
 pub loop-core-preserved : goal.loop-core-preserved
 loop-core-preserved c = next_text
-    (cluster_text c.args.recording.now c.args.names.now.keys c.args.numbers.now c.args.rest.now c.args.ranked)
+    (cluster_text c.args.recording.now c.args.names.now c.args.numbers.now c.args.rest.now c.args.ranked)
     c.loop-core.core _ _ _ c.loop-core.invariant c.in_ok-put_cluster.ensures

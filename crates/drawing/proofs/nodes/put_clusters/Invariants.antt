@@ -5,4 +5,4 @@ use Rattle.drawing.proofs.nodes.put_clusters.Given as goal
 
 abbrev pub invariant-loop-core : goal.invariant-loop-core
 invariant-loop-core l = l.out.items ≡ l.fn.out.items
-    ++ texts_below (cluster_text l.recording l.names.keys l.numbers l.rest l.ranked) l.core
+    ++ texts_below (cluster_text l.recording l.names l.numbers l.rest l.ranked) l.core

@@ -4,5 +4,5 @@ use Rattle.drawing.proofs.nodes.put_nodes.Goals as goal
 
 pub loop-i-preserved : goal.loop-i-preserved
 loop-i-preserved c = next_text
-    (node_of_core c.args.recording.now c.args.names.now.keys c.args.numbers.now c.args.rest.now c.args.core)
+    (node_of_core c.args.recording.now c.args.names.now c.args.numbers.now c.args.rest.now c.args.core)
     c.loop-i.i _ _ _ c.loop-i.invariant c.in_ok-put_node_of_core.ensures

@@ -8,7 +8,7 @@ returns c =
     let links = c.in_ok-put_links.ensures in
     let heading = cycle_heading (length c.args.cycle.now) in
     let named = c.args.self.now in
-    on_ok _ _ ((text : List ℕ) × SaysCycle named.recording.now named.names.now.keys c.args.cycle.now text
+    on_ok _ _ ((text : List ℕ) × SaysCycle named.recording.now named.names.now c.args.cycle.now text
     × (c.put_diy.new.out.items ≡ c.args.out.now.items ++ text)) (λ told. (
       heading ++ (links.0 ++ told.0),
       record { links = links.0; lines = links.1; line = told.0; steps = told.1; whole = refl },

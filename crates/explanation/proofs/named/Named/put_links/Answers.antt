@@ -21,7 +21,7 @@ put_link-requires c =
 pub loop-i-preserved : goal.loop-i-preserved
 loop-i-preserved c =
     let x = c.args.self.now.recording.now in
-    let names = c.args.self.now.names.now.keys in
+    let names = c.args.self.now.names.now in
     let cycle = c.args.cycle.now in
     let i = c.loop-i.i in
     let h = c.loop-i.invariant in

@@ -7,7 +7,7 @@ use Rattle.explanation.proofs.named.Named.put_order.Goals as goal
 
 pub loop-number-preserved : goal.loop-number-preserved
 loop-number-preserved c =
-    next_item (placed_lines c.args.self.now.recording.now c.args.self.now.names.now.keys c.args.order.now)
+    next_item (placed_lines c.args.self.now.recording.now c.args.self.now.names.now c.args.order.now)
     c.args.order.now c.loop-number.number-index _ _ _ _
     (take_more c.args.order.now c.loop-number.number-index _ c.loop-number-test.true) c.loop-number.invariant
     c.in_ok-put_placed.ensures
@@ -15,5 +15,5 @@ loop-number-preserved c =
 pub returns : goal.returns
 returns c = two _ _ _ _ _ c.in_ok-put_text.ensures
     (subst (λ (m : List ℕ). c.loop-number.out.items ≡ c.put_text.new.out.items
-    ++ flat_map (placed_lines c.args.self.now.recording.now c.args.self.now.names.now.keys c.args.order.now) m)
+    ++ flat_map (placed_lines c.args.self.now.recording.now c.args.self.now.names.now c.args.order.now) m)
     (take_all c.loop-number.number-index c.args.order.now c.loop-number-test.false) c.loop-number.invariant)
