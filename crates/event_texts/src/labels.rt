@@ -1,0 +1,60 @@
+//! The text that has the labels of a recording's events.
+
+ghost use Rattle.std.specs.Prelude.{◌≡◌, ◌<◌, IfErr, IfOk, IfSome, Ok, length, map, position};
+ghost use Rattle.event_texts.specs.Labels.{IsLabelError, is_too_long, labels_in, lines_in};
+
+use bstr::ByteSlice;
+use common::OutOfMemory;
+use std::alloc::Global;
+
+/// The most bytes that the label of an event has.
+pub const MAX_LABEL_LEN: usize = 64;
+
+/// Whether a line is longer than a label may be.
+fn is_too_long(line: &[u8]) -> bool
+    ensures { result ≡ is_too_long line.now }
+{
+    line.len() > MAX_LABEL_LEN
+}
+
+/// The place of the first line that is too long for a label.
+fn first_too_long(text: &[u8]) -> Option<usize>
+    ensures place { result ≡ position is_too_long (lines_in text.now) }
+    ensures within { IfSome result (λ i. i < length text.now) }
+{
+    text.lines().position(|line| is_too_long(line))
+}
+
+/// A copy of each line.
+fn copied_lines(alloc: Global, text: &[u8]) -> Result<Vec<Vec<u8>>, OutOfMemory>
+    ensures { IfOk result (λ lines. map (λ line. line.items) lines.items ≡ lines_in text.now) }
+{
+    let mut lines = Vec::new(alloc);
+    for line in text.lines() {
+        lines.push(Vec::from_slice(alloc, line)?)?;
+    }
+    Ok(lines)
+}
+
+/// Why a text has no labels.
+#[derive(Clone, Copy, Debug, Drop, PartialEq, Eq)]
+pub enum LabelError {
+    /// This line is the first that has more than `MAX_LABEL_LEN` bytes; lines are counted from 1.
+    TooLong(usize),
+    /// There is no memory.
+    OutOfMemory,
+}
+
+/// The labels that a text has: its lines, each without the newline that ends it, and a carriage return before that.
+pub fn labels_in(alloc: Global, text: &[u8]) -> Result<Vec<Vec<u8>>, LabelError>
+    ensures ok { IfOk result (λ labels. labels_in text.now ≡ Ok (map (λ label. label.items) labels.items)) }
+    ensures err { IfErr result (IsLabelError text.now) }
+{
+    if let Some(place) = first_too_long(text) {
+        return Err(LabelError::TooLong(place + 1));
+    }
+    match copied_lines(alloc, text) {
+        Ok(lines) => Ok(lines),
+        Err(OutOfMemory) => Err(LabelError::OutOfMemory),
+    }
+}
