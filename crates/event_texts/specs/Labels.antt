@@ -1,9 +1,14 @@
--- The text that has the labels of a recording's events, a line each.
-use Rattle.std.specs.Prelude.{◌≡◌, ◌+◌, ℕ, Bool, List, Option, None, Some, Result, Ok, Err, ⊤, length, map, nat_lt, position}
+-- Labels of a recording's events, and the text that has them, a line each.
+use Rattle.std.specs.Prelude.{◌≡◌, ◌+◌, [], ℕ, Bool, List, Option, None, Some, Result, Ok, Err, ⊤, length, map, nat_lt, position}
+use Rattle.std.specs.Prelude.{slice_index_or}
 use Rattle.bstr.specs.Text.{lines_of, without_terminator}
 use Rattle.event_texts.specs.declared.labels.LabelError.{LabelError}
 use Rattle.event_texts.specs.declared.labels.LabelError.TheVariants.{TooLong, OutOfMemory}
 use Rattle.event_texts.specs.declared.labels.TheConstants.{MAX_LABEL_LEN}
+
+-- the label of event e; empty where it has none
+abbrev pub label_at : List (List ℕ) → ℕ → List ℕ
+label_at labels e = slice_index_or labels e []
 
 -- the lines of a text, without the newlines that end them, and carriage returns before these
 abbrev pub lines_in : List ℕ → List (List ℕ)

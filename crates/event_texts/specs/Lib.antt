@@ -1,3 +1,3 @@
+pub mod Labels
 pub mod Names
 pub mod Events
-pub mod Labels

@@ -1,14 +1,60 @@
-//! The text that has the labels of a recording's events.
+//! Labels of a recording's events, and the text that has them.
 
 ghost use Rattle.std.specs.Prelude.{◌≡◌, ◌<◌, IfErr, IfOk, IfSome, Ok, length, map, position};
 ghost use Rattle.event_texts.specs.Labels.{IsLabelError, is_too_long, labels_in, lines_in};
 
 use bstr::ByteSlice;
-use common::OutOfMemory;
+use common::{EventId, OutOfMemory};
 use std::alloc::Global;
+use std::marker::Model;
 
 /// The most bytes that the label of an event has.
 pub const MAX_LABEL_LEN: usize = 64;
+
+/// The label of each event of a recording, by its number. An event has none where its label is empty, as past the last.
+#[derive(Drop)]
+pub struct Labels {
+    texts: Vec<Vec<u8>>,
+}
+
+impl Model for Labels {
+    ghost use Rattle.std.specs.Prelude.{List, map, ℕ};
+
+    ghost Value = { List (List ℕ) };
+
+    ghost view = { λ labels. map (λ text. text.items) labels.texts.items };
+}
+
+impl Labels {
+    ghost use Rattle.std.specs.Prelude.{◌≡◌, [], length};
+    ghost use Rattle.event_texts.specs.Labels.{label_at};
+
+    /// No event has a label.
+    pub fn none(alloc: Global) -> Labels
+        ensures { result ≡ [] }
+    {
+        Labels {
+            texts: Vec::new(alloc),
+        }
+    }
+
+    /// How many there are, empty ones too.
+    pub fn len(&self) -> usize
+        ensures { result ≡ length self.now }
+    {
+        self.texts.len()
+    }
+
+    /// The label of an event; empty where it has none.
+    pub fn label(&self, number: EventId) -> &[u8]
+        ensures { result.now ≡ label_at self.now number }
+    {
+        if number as usize >= self.texts.len() {
+            return &[];
+        }
+        self.texts[number as usize].as_slice()
+    }
+}
 
 /// Whether a line is longer than a label may be.
 fn is_too_long(line: &[u8]) -> bool
@@ -46,15 +92,15 @@ pub enum LabelError {
 }
 
 /// The labels that a text has: its lines, each without the newline that ends it, and a carriage return before that.
-pub fn labels_in(alloc: Global, text: &[u8]) -> Result<Vec<Vec<u8>>, LabelError>
-    ensures ok { IfOk result (λ labels. labels_in text.now ≡ Ok (map (λ label. label.items) labels.items)) }
+pub fn labels_in(alloc: Global, text: &[u8]) -> Result<Labels, LabelError>
+    ensures ok { IfOk result (λ labels. labels_in text.now ≡ Ok labels) }
     ensures err { IfErr result (IsLabelError text.now) }
 {
     if let Some(place) = first_too_long(text) {
         return Err(LabelError::TooLong(place + 1));
     }
     match copied_lines(alloc, text) {
-        Ok(lines) => Ok(lines),
+        Ok(texts) => Ok(Labels { texts }),
         Err(OutOfMemory) => Err(LabelError::OutOfMemory),
     }
 }

@@ -7,6 +7,6 @@ mod lines;
 mod names;
 
 pub use events::{put_address, put_event, put_written};
-pub use labels::{LabelError, MAX_LABEL_LEN, labels_in};
+pub use labels::{LabelError, Labels, MAX_LABEL_LEN, labels_in};
 pub use lines::{event_of, put_before, put_indent, put_line};
 pub use names::Names;

@@ -1,5 +1,6 @@
 //! What the addresses and the events of a recording are called.
 
+use crate::labels::Labels;
 use common::{Addr, EventId};
 use indexmap::IndexSet;
 use program::Name;
@@ -9,32 +10,27 @@ use std::marker::Model;
 #[derive(Drop)]
 pub struct Names {
     addresses: IndexSet<Name>,
-    labels: Vec<Vec<u8>>,
+    labels: Labels,
 }
 
 impl Model for Names {
-    ghost use Rattle.std.specs.Prelude.{map};
     ghost use Rattle.event_texts.specs.Names as spec;
 
     ghost Value = { spec.Names };
 
-    ghost view = { λ n. record {
-      addresses = n.addresses.keys;
-      labels = map (λ label. label.items) n.labels.items;
-    } };
+    ghost view = { λ n. record { addresses = n.addresses.keys; labels = n.labels } };
 }
 
 impl Names {
-    ghost use Rattle.std.specs.Prelude.{◌≡◌, map};
+    ghost use Rattle.std.specs.Prelude.{◌≡◌};
     ghost use Rattle.program.specs.Names.{name_text};
     ghost use Rattle.program.specs.Spelling.{name_at};
     ghost use Rattle.event_texts.specs.Names.{label_of};
 
-    /// These names of addresses, in their order, and these labels of events, in the order of their numbers. An event has
-    /// none where its label is empty, as past the last label.
-    pub fn new(addresses: IndexSet<Name>, labels: Vec<Vec<u8>>) -> Names
+    /// These names of addresses, in their order, and these labels.
+    pub fn new(addresses: IndexSet<Name>, labels: Labels) -> Names
         ensures addresses { result.addresses ≡ addresses.keys }
-        ensures labels { result.labels ≡ map (λ label. label.items) labels.items }
+        ensures labels { result.labels ≡ labels }
     {
         Names { addresses, labels }
     }
@@ -53,9 +49,6 @@ impl Names {
     pub fn label(&self, number: EventId) -> &[u8]
         ensures { result.now ≡ label_of self.now number }
     {
-        if number as usize >= self.labels.len() {
-            return &[];
-        }
-        self.labels[number as usize].as_slice()
+        self.labels.label(number)
     }
 }
