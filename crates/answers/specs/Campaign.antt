@@ -1,5 +1,5 @@
 -- What is answered of campaigns.
-use Rattle.std.specs.Prelude.{◌≡◌, ◌++◌, ◌∷◌, ℕ, Bool, true, false, Some, List, if◌then◌else◌, is_some, nat_lt}
+use Rattle.std.specs.Prelude.{◌≡◌, ◌++◌, ◌∷◌, ℕ, Bool, true, false, None, Some, List, if◌then◌else◌, is_some, nat_lt}
 use Rattle.program.specs.Parts.{Parts}
 use Rattle.program.specs.Spelling.{spelling}
 use Rattle.relations.specs.Consistency.{HasNoOrder}
@@ -50,7 +50,7 @@ IsViolation p s = IsComplete p.cores s × HasNoOrder (recorded p.cores s)
 -- what is shown of a run: a violation is cut down to the events that it needs where that is asked for
 pub record IsShownRun (fault : Fault) (p : Parts) (s : State) (reduced : Bool) (answer : Answer) : Type 0 where
   pub whole : (reduced ≡ true → ¬ IsViolation p s) → IsWholeShown fault p s answer
-  pub cut : reduced ≡ true → IsViolation p s → IsCutAnswer (recorded p.cores s) (Some p) false answer
+  pub cut : reduced ≡ true → IsViolation p s → IsCutAnswer (recorded p.cores s) (Some p) None answer
 
 -- what is shown of the run of trial k
 pub record IsShownAnswer (p : Plan) (k : ℕ) (reduced : Bool) (answer : Answer) : Type 0 where

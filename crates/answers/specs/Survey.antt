@@ -22,5 +22,5 @@ pub record IsSurveyAnswer (after_lines : Bool) (l : Ledger) (answer : Answer) : 
 -- what is answered to the bytes of one recording: its verdict, or what is left of its violation, or its refusal
 abbrev pub IsLineAnswer : Bool → List ℕ → Answer → Type 0
 IsLineAnswer false bytes answer = IsAnswerOf bytes answer
-IsLineAnswer true bytes answer = ((x : Execution) × IsReadingResult bytes (Ok x) × IsReducedAnswer x None answer)
+IsLineAnswer true bytes answer = ((x : Execution) × IsReadingResult bytes (Ok x) × IsReducedAnswer x None [] answer)
     ⊎ IsRefusedAnswer bytes answer

@@ -1,16 +1,18 @@
 //! Violations that are cut down to the events that they need, as answers.
 
-ghost use Rattle.std.specs.Prelude.{◌≡◌, ◌++◌, IfOk, IfSome, IfNone, option_map};
+ghost use Rattle.std.specs.Prelude.{◌≡◌, ◌++◌, IfOk, IfSome, IfNone, OnOk, option_map};
+ghost use Rattle.std.specs.List.{flat_map};
 ghost use Rattle.recording.specs.FirstUse.{IsNumberedByFirstUse};
 ghost use Rattle.machine.specs.ProgramOf.{IsProgramOf};
 ghost use Rattle.verdicts.specs.Judgement.{IsVerdict};
 ghost use Rattle.reduction.specs.Needed.{IsOrdered};
 ghost use Rattle.reduction.specs.Restriction.{AreClosed};
-ghost use Rattle.answers.specs.Reduced.{heading, shown_text, program_left, IsCutAnswer, IsReducedAnswer};
+ghost use Rattle.answers.specs.Reduced.{heading, label_line, labels_left, shown_text, program_left, IsCutAnswer, IsReducedAnswer};
 ghost use Rattle.answers.specs.Survey.{IsLineAnswer};
 ghost use Rattle.verdicts.specs.VerdictAnswer.{IsVerdictAnswer};
 
 use common::{EventId, OutOfMemory};
+use event_texts::Labels;
 use judge::{Verdict, judge_alone};
 use litmus::print;
 use program::Program;
@@ -20,17 +22,64 @@ use reduction::{Reduced, reduce, restricted_program};
 use replay::named_program;
 use report::{Answer, answer_alone, read_or_refuse, verdict_answer};
 use std::alloc::Global;
-use texts::put_numbers;
+use texts::{put_numbers, put_text};
 
-/// The line of the numbers that the kept events had, and an empty line, where they are asked for.
-fn heading_of(alloc: Global, events: &[EventId], headed: bool) -> Result<Vec<u8>, OutOfMemory>
-    ensures { IfOk result (λ text. text.items ≡ heading headed events.now) }
+/// Adds the line of a label.
+fn put_label_line(
+    out: &mut Vec<u8>,
+    labels: &Labels,
+    number: EventId,
+) -> Result<(), OutOfMemory>
+    ensures { OnOk result (out.new.items ≡ out.old.items ++ label_line labels.now number) }
+{
+    put_text(out, labels.label(number))?;
+    put_text(out, b"\n")
+}
+
+/// Adds the labels of these events, a line each.
+fn put_label_lines(
+    out: &mut Vec<u8>,
+    labels: &Labels,
+    events: &[EventId],
+) -> Result<(), OutOfMemory>
+    ensures { OnOk result (out.new.items ≡ out.old.items ++ flat_map (label_line labels.now) events.now) }
+{
+    for number in events {
+        put_label_line(out, labels, *number)?;
+    }
+    Ok(())
+}
+
+/// Adds the labels of the kept events, where events have labels.
+#[tactic(auto, unfolding(crate::specs::Reduced::labels_left))]
+fn put_labels_left(
+    out: &mut Vec<u8>,
+    labels: &Labels,
+    events: &[EventId],
+) -> Result<(), OutOfMemory>
+    ensures { OnOk result (out.new.items ≡ out.old.items ++ labels_left labels.now events.now) }
+{
+    if labels.len() == 0 {
+        return Ok(());
+    }
+    put_label_lines(out, labels, events)
+}
+
+/// The line of the numbers that the kept events had, their labels, and an empty line, where they are asked for.
+fn heading_of(
+    alloc: Global,
+    events: &[EventId],
+    headed: Option<&Labels>,
+) -> Result<Vec<u8>, OutOfMemory>
+    ensures { IfOk result (λ text. text.items ≡ heading (option_map (λ l. l.now) headed.entry) events.now) }
 {
     let mut out = Vec::new(alloc);
-    if headed {
-        out.extend_from_slice(b"events")?;
+    if let Some(labels) = headed {
+        put_text(&mut out, b"events")?;
         put_numbers(&mut out, events)?;
-        out.extend_from_slice(b"\n\n")?;
+        put_text(&mut out, b"\n")?;
+        put_labels_left(&mut out, labels, events)?;
+        put_text(&mut out, b"\n")?;
     }
     Ok(out)
 }
@@ -76,18 +125,19 @@ fn program_left(
 
 /// What is left of a violation where the events alone are kept that it needs: its program, which is what is
 /// left of the given one, an empty line, and its recording with the verdict on it, after the numbers of
-/// its events where they are asked for; none where the verdict is an order. Fails only if out of memory.
+/// its events and their labels where these are asked for; none where the verdict is an order. Fails only if out of memory.
 pub(crate) fn cut_answer(
     alloc: Global,
     recording: &Recording,
     program: Option<&Program>,
     verdict: &Verdict,
-    headed: bool,
+    headed: Option<&Labels>,
 ) -> Result<Option<Answer>, OutOfMemory>
     requires found { IsVerdict recording.now verdict.now }
     requires program { IfSome program (λ p. IsProgramOf p.now recording.now) }
     ensures some { IfOk result (λ r. IfSome r
-        (IsCutAnswer recording.now (option_map (λ p. p.now) program.entry) headed)) }
+        (IsCutAnswer recording.now (option_map (λ p. p.now) program.entry)
+        (option_map (λ l. l.now) headed.entry))) }
     ensures none { IfOk result (λ r. IfNone r (IsOrdered verdict.now)) }
 {
     match reduce(alloc, recording, verdict)? {
@@ -101,7 +151,7 @@ pub(crate) fn cut_answer(
     }
 }
 
-/// The line of the numbers of the events that a violation needs, an empty line, the program of these
+/// The line of the numbers of the events that a violation needs, the labels of these, an empty line, the program of these
 /// events, an empty line, and their recording with the verdict on it; a `Violation`. Of a recording that
 /// TSO allows, its verdict. The program is what is left of the given one, of which the
 /// recording has to be one, and else that which makes the reduced recording. Fails only if out of memory.
@@ -109,12 +159,13 @@ pub fn reduced_answer(
     alloc: Global,
     recording: &Recording,
     program: Option<&Program>,
+    labels: &Labels,
 ) -> Result<Answer, OutOfMemory>
     requires { IfSome program (λ p. IsProgramOf p.now recording.now) }
-    ensures { IfOk result (IsReducedAnswer recording.now (option_map (λ p. p.now) program.entry)) }
+    ensures { IfOk result (IsReducedAnswer recording.now (option_map (λ p. p.now) program.entry) labels.now) }
 {
     let verdict = judge_alone(alloc, recording)?;
-    match cut_answer(alloc, recording, program, &verdict, true)? {
+    match cut_answer(alloc, recording, program, &verdict, Some(labels))? {
         Some(answer) => Ok(answer),
         None => verdict_answer(alloc, Vec::new(alloc), recording, &verdict),
     }
@@ -129,7 +180,7 @@ pub fn line_answer(alloc: Global, bytes: &[u8], reduce: bool) -> Result<Answer, 
         return answer_alone(alloc, bytes);
     }
     match read_or_refuse(alloc, bytes)? {
-        Ok(recording) => reduced_answer(alloc, &recording, None),
+        Ok(recording) => reduced_answer(alloc, &recording, None, &Labels::none(alloc)),
         Err(refused) => Ok(refused),
     }
 }

@@ -3,12 +3,13 @@
 ghost use Rattle.std.specs.Prelude.{◌≡◌, IfOk, IfSome, option_map};
 ghost use Rattle.verdicts.specs.Judgement.{IsVerdict};
 ghost use Rattle.verdicts.specs.Verified.{Verifies};
-ghost use Rattle.answers.specs.Rendered.{IsPicture, IsRenderedAnswer, IsWholeDrawing, names_of};
+ghost use Rattle.answers.specs.Rendered.{IsPicture, IsRenderedAnswer, IsWholeDrawing, addresses_of, names_of};
 ghost use Rattle.machine.specs.ProgramOf.{IsProgramOf};
 
 use crate::reduced::reduced_answer;
 use common::{EventId, OutOfMemory};
 use drawing::drawing_text;
+use event_texts::{Labels, Names};
 use explanation::explanation_text;
 use indexmap::IndexSet;
 use judge::{Verdict, judge_alone};
@@ -37,11 +38,11 @@ pub enum Rendering {
 fn whole_drawing(
     alloc: Global,
     recording: &Recording,
-    names: &IndexSet<Name>,
+    names: &Names,
     verdict: &Verdict,
 ) -> Result<Vec<u8>, OutOfMemory>
     requires { Verifies recording.now verdict.now }
-    ensures { IfOk result (λ text. IsWholeDrawing recording.now names.now.keys verdict.now text.items) }
+    ensures { IfOk result (λ text. IsWholeDrawing recording.now names.now verdict.now text.items) }
 {
     recording.sound();
     let mut numbers = Vec::new(alloc);
@@ -56,12 +57,12 @@ fn picture_text(
     alloc: Global,
     all: bool,
     recording: &Recording,
-    names: &IndexSet<Name>,
+    names: &Names,
     verdict: &Verdict,
 ) -> Result<Vec<u8>, OutOfMemory>
     requires found { IsVerdict recording.now verdict.now }
     requires verified { Verifies recording.now verdict.now }
-    ensures { IfOk result (λ text. IsPicture all recording.now names.now.keys verdict.now text.items) }
+    ensures { IfOk result (λ text. IsPicture all recording.now names.now verdict.now text.items) }
 {
     if all {
         return whole_drawing(alloc, recording, names, verdict);
@@ -81,13 +82,13 @@ fn picture_text(
 }
 
 /// The names of the addresses of a recording: those of its program, if that is given.
-fn names_of(
+fn addresses_of(
     alloc: Global,
     recording: &Recording,
     program: Option<&Program>,
 ) -> Result<IndexSet<Name>, OutOfMemory>
     ensures { IfOk result (λ names.
-        names.keys ≡ names_of (option_map (λ p. p.now) program.entry) recording.now) }
+        names.keys ≡ addresses_of (option_map (λ p. p.now) program.entry) recording.now) }
 {
     recording.sound();
     match program {
@@ -96,33 +97,47 @@ fn names_of(
     }
 }
 
+/// These names, and the labels of the events.
+fn names_of(
+    alloc: Global,
+    recording: &Recording,
+    program: Option<&Program>,
+    labels: Labels,
+) -> Result<Names, OutOfMemory>
+    ensures { IfOk result (λ names. names ≡ names_of (option_map (λ p. p.now) program.entry) recording.now labels) }
+{
+    let addresses = addresses_of(alloc, recording, program)?;
+    Ok(Names::new(addresses, labels))
+}
+
 /// The rendering of a recording, with the names that its program gives the addresses, or else with the usual
-/// ones; the outcome is that of its verdict. Fails only if out of memory.
+/// ones, and with these labels of its events; the outcome is that of its verdict. Fails only if out of memory.
 pub fn rendered_answer(
     alloc: Global,
     rendering: Rendering,
     recording: &Recording,
     program: Option<&Program>,
+    labels: Labels,
 ) -> Result<Answer, OutOfMemory>
     requires { IfSome program (λ p. IsProgramOf p.now recording.now) }
     ensures { IfOk result
-        (IsRenderedAnswer rendering recording.now (option_map (λ p. p.now) program.entry)) }
+        (IsRenderedAnswer rendering recording.now (option_map (λ p. p.now) program.entry) labels) }
 {
     match rendering {
         Rendering::Words => {
-            let names = names_of(alloc, recording, program)?;
+            let names = names_of(alloc, recording, program, labels)?;
             let verdict = judge_alone(alloc, recording)?;
             let text = explanation_text(alloc, recording, &names, &verdict)?;
             let outcome = outcome_of(&verdict);
             Ok(Answer { outcome, text })
         }
         Rendering::Picture { all } => {
-            let names = names_of(alloc, recording, program)?;
+            let names = names_of(alloc, recording, program, labels)?;
             let verdict = judge_alone(alloc, recording)?;
             let text = picture_text(alloc, all, recording, &names, &verdict)?;
             let outcome = outcome_of(&verdict);
             Ok(Answer { outcome, text })
         }
-        Rendering::Reduction => reduced_answer(alloc, recording, program),
+        Rendering::Reduction => reduced_answer(alloc, recording, program, &labels),
     }
 }

@@ -1,6 +1,6 @@
 //! What is shown of a trial.
 
-ghost use Rattle.std.specs.Prelude.{◌≡◌, ◌<◌, IfOk, IfSome, IfNone, Some, false, true};
+ghost use Rattle.std.specs.Prelude.{◌≡◌, ◌<◌, IfOk, IfSome, IfNone, None, Some, true};
 ghost use Rattle.machine.specs.Configuration.{Configuration, IsAtEnd, recording_of};
 ghost use Rattle.trials.specs.Judged.{IsJudgedEnd};
 ghost use Rattle.answers.specs.Campaign.{IsShownAnswer, IsShownRun, IsViolation};
@@ -26,7 +26,7 @@ fn cut_end(
     requires { (h : Configuration) × (h.program ≡ program.now) × IsJudgedEnd h judged.now }
     ensures asked { IfOk result (λ r. IfSome r (λ _. reduced ≡ true)) }
     ensures some { IfOk result (λ r. IfSome r (λ answer. (h : Configuration) → h.program ≡ program.now
-        → IsJudgedEnd h judged.now → IsAtEnd h × IsCutAnswer (recording_of h) (Some h.program) false answer)) }
+        → IsJudgedEnd h judged.now → IsAtEnd h × IsCutAnswer (recording_of h) (Some h.program) None answer)) }
     ensures none { IfOk result (λ r. IfNone r (reduced ≡ true → (h : Configuration) → h.program ≡ program.now
         → IsJudgedEnd h judged.now → ¬ IsViolation h.program h.state)) }
 {
@@ -35,7 +35,7 @@ fn cut_end(
     }
     match judged {
         Some(Judged { recording, verdict }) => {
-            let answer = cut_answer(alloc, recording, Some(program), verdict, false)?;
+            let answer = cut_answer(alloc, recording, Some(program), verdict, None)?;
             Ok(answer)
         }
         None => Ok(None),

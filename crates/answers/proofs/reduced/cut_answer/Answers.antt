@@ -1,4 +1,4 @@
-use Rattle.std.proofs.Common.{◌++◌, ◌∙◌, ℕ, List, ap, arith, subst}
+use Rattle.std.proofs.Common.{◌++◌, ◌∙◌, ℕ, List, ap, arith, option_map, subst}
 use Rattle.std.proofs.lemmas.Grind.{common_steps}
 use Rattle.program.specs.Parts.{Parts}
 use Rattle.answers.specs.Reduced.{heading, shown_text}
@@ -12,8 +12,8 @@ returns-in_ok-answer-in-Some-clause-some c =
     let reduction = rw c.in-Some.is at c.in_ok-reduced.ensures.reduction in
     let shown = subst (λ (t : List ℕ). IsVerdictAnswer y t c.in_ok-answer-in-Some.answer)
     (ap (λ (t : List ℕ). t ++ shown_text c.in_ok-left-in-Some.left y)
-    (c.in_ok-text-in-Some.ensures ∙ ap (heading c.args.headed) c.deref.ensures.value)
-    ∙ ap (λ (p : Parts). heading c.args.headed ks ++ shown_text p y) c.in_ok-left-in-Some.ensures)
+    (c.in_ok-text-in-Some.ensures ∙ ap (heading (option_map (λ l. l.now) c.args.headed)) c.deref.ensures.value)
+    ∙ ap (λ (p : Parts). heading (option_map (λ l. l.now) c.args.headed) ks ++ shown_text p y) c.in_ok-left-in-Some.ensures)
     c.in_ok-answer-in-Some.ensures in record {
       verdict = c.args.verdict.now;
       found = c.requires.found;

@@ -1,4 +1,4 @@
-use Rattle.std.proofs.Common.{◌≡◌, ◌∙◌, Bool, Option, Some, append_assoc, false, refl, sym}
+use Rattle.std.proofs.Common.{◌≡◌, ◌∙◌, ℕ, List, None, Option, Some, append_assoc, refl, sym}
 use Rattle.program.specs.Parts.{Parts}
 use Rattle.recording.specs.Execution.{Execution}
 use Rattle.relations.specs.Consistency.{HasNoOrder}
@@ -12,7 +12,7 @@ use Rattle.answers.specs.Reduced.{IsCutAnswer}
 use Rattle.answers.proofs.shown.shown_run.Goals as goal
 
 -- what is cut down is a violation
-cut_violates : (x : Execution) (p : Option Parts) (headed : Bool) (answer : Answer) → IsCutAnswer x p headed answer
+cut_violates : (x : Execution) (p : Option Parts) (headed : Option (List (List ℕ))) (answer : Answer) → IsCutAnswer x p headed answer
     → HasNoOrder x
 cut_violates x p headed answer cut = go cut.verdict cut.reduction cut.found
   where
@@ -31,12 +31,12 @@ ended-requires c = (c.args.machine, c.in_ok-judged.ensures)
 pub returns-in-Some : goal.returns-in-Some
 returns-in-Some c =
     let h : Configuration = c.args.machine in
-    let cut : IsAtEnd h × IsCutAnswer (recording_of h) (Some h.program) false c.in-Some.answer =
+    let cut : IsAtEnd h × IsCutAnswer (recording_of h) (Some h.program) None c.in-Some.answer =
     (rw c.in-Some.is at c.in_ok-answer.ensures.some) h
     (sym (c.in_ok-program.ensures ∙ c.program.ensures)) c.in_ok-judged.ensures in
     record {
       whole = λ none. absurd (none (rw c.in-Some.is at c.in_ok-answer.ensures.asked)
-          (cut.0, cut_violates (recording_of h) (Some h.program) false c.in-Some.answer cut.1));
+          (cut.0, cut_violates (recording_of h) (Some h.program) None c.in-Some.answer cut.1));
       cut = λ yes violation. cut.1;
     }
 
