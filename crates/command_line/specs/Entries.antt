@@ -85,6 +85,8 @@ names_standard_input_twice rows =
     repeats_standard_input (codes "FILE") rows
     || (is_standard_input (codes "PROGRAM") rows && is_standard_input (codes "steps") rows)
     || (is_standard_input (codes "FILE") rows && is_standard_input (codes "program") rows)
+    || (is_standard_input (codes "FILE") rows && is_standard_input (codes "labels") rows)
+    || (is_standard_input (codes "program") rows && is_standard_input (codes "labels") rows)
     || (is_standard_input (codes "RECORDING") rows && is_standard_input (codes "VERDICT") rows)
     || (is_standard_input (codes "PROGRAM") rows && is_standard_input (codes "observed") rows)
 

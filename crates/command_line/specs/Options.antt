@@ -107,10 +107,11 @@ pub record AreLiveOptions (o : LiveOptions) (rows : List Row) : Type 0 where
 abbrev pub AreFileOptions : FileOptions → List Row → Type 0
 AreFileOptions o rows = first_of (codes "FILE") rows ≡ Some (string_bytes o.file)
 
--- the file is its entry, and so is the program, where there is one
+-- the file is its entry, and so are the program and the labels, where there are any
 pub record AreExplainOptions (o : ExplainOptions) (rows : List Row) : Type 0 where
   pub file : first_of (codes "FILE") rows ≡ Some (string_bytes o.file)
   pub program : first_of (codes "program") rows ≡ option_map string_bytes o.program
+  pub labels : first_of (codes "labels") rows ≡ option_map string_bytes o.labels
 
 -- the recording is that of its entries, and all events are drawn where the words have --all
 pub record AreDrawOptions (o : DrawOptions) (rows : List Row) : Type 0 where

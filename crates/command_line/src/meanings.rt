@@ -38,6 +38,10 @@ M2   line N begins a text that no list of outcomes has (its counts add up, and a
 M3   line N begins a text of the other kind than the first (all are those of campaigns, or all those of surveys)
 M4   line N begins a text with which there are 2^64 or more (a count has 64 bits)
 
+Of the labels of events, whose lines are counted from 1:
+A1   line N is too long for a label (a label has at most 64 bytes)
+A2   there is not a line for each event of the recording (an empty line says that an event has no label)
+
 Of what was observed, whose lines are counted from 1, and of conditions, whose items are:
 O1   line N has a word that is no item of the program, or one that stands twice (items are `C:rK=V;` and `[NAME]=V;`, or `NAME=V;`, of reading operations and addresses that the program has)
 O2   item N is none of the program's, or stands twice (items are `C:rK=V` and `[NAME]=V`, or `NAME=V`, with `/\\` or a space between)

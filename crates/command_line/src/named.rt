@@ -43,7 +43,7 @@ fn maybe_given(
     }
 }
 
-/// The recording, and the program that may name its addresses.
+/// The recording, the program that may name its addresses, and the labels that its events may have.
 fn recorded(alloc: Global, matches: &ArgMatches<'_>) -> Result<ExplainOptions, AllocError>
     requires { HasText (codes "FILE") (rows_of (found_of matches.now)) }
     ensures { IfOk result (λ o. AreExplainOptions o (rows_of (found_of matches.now))) }
@@ -51,6 +51,7 @@ fn recorded(alloc: Global, matches: &ArgMatches<'_>) -> Result<ExplainOptions, A
     Ok(ExplainOptions {
         file: given(alloc, matches, "FILE")?,
         program: maybe_given(alloc, matches, "program")?,
+        labels: maybe_given(alloc, matches, "labels")?,
     })
 }
 

@@ -146,13 +146,15 @@ pub struct FileOptions {
     pub file: String,
 }
 
-/// What `explain` and `reduce` are asked: the name of the recording, and of the program that names its addresses.
+/// What `explain` and `reduce` are asked: the names of the recording, of the program that names its addresses, and of the labels of its events.
 #[derive(Debug, Drop)]
 pub struct ExplainOptions {
     /// The name of the recording.
     pub file: String,
     /// The name of the program; none asks for the usual names.
     pub program: Option<String>,
+    /// The name of the labels; none asks for none.
+    pub labels: Option<String>,
 }
 
 /// What `draw` is asked: the recording, and which of its events are drawn.

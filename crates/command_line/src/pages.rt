@@ -172,15 +172,18 @@ the next one, and of an order what makes its place lawful. Of an overlook there 
 store, the load, and what the load read instead. The last line of a violation of loads,
 stores and fences is its cycle in the words of the tool diy, with the name of the classic
 test that has it. The addresses are named a0, a1 and so on, or as in the program of
---program, whose operations and initial values have to be those of the recording.",
+--program, whose operations and initial values have to be those of the recording. With
+`--labels` each event has the label that its line of this file is, such as a cycle or a pc,
+of at most 64 bytes; an empty line is none.",
     statuses: "Exit status:
   0  TSO allows the recording
   1  an error of the command line, a file or memory, as standard error says
   2  the recording is a violation of TSO
-  3  the recording or the program was refused, as the line `refused: ..` says
+  3  the recording, the program or the labels were refused, as the line `refused: ..` says
 
-Example:
-  tsotest explain recording.json --program store_buffering.litmus",
+Examples:
+  tsotest explain recording.json --program store_buffering.litmus
+  tsotest explain recording.json --labels cycles.txt",
 };
 
 const DRAW: Page = Page {
@@ -198,12 +201,12 @@ and from-read (fr), orange. The edges of a cycle are bold, and of an overlook th
 the store and the load. The others go to the next event of the core, from the write that was
 read, to the next write of the address, and to the first write that is newer than what was
 read. The events of an order stand in memory order, from top to bottom. The addresses are
-named as by `explain`.",
+named, and the events labelled, as by `explain`.",
     statuses: "Exit status:
   0  TSO allows the recording
   1  an error of the command line, a file or memory, as standard error says
   2  the recording is a violation of TSO
-  3  the recording or the program was refused, as the line `refused: ..` says
+  3  the recording, the program or the labels were refused, as the line `refused: ..` says
 
 Example:
   tsotest draw recording.json --program store_buffering.litmus | dot -Tsvg > recording.svg",
@@ -218,12 +221,13 @@ The line `events` has their numbers. Behind an empty line stands a litmus progra
 events alone, and after another empty line their recording and its verdict, which is the
 same one with the numbers that they have there. The addresses are named a0, a1 and so on, or
 as in the program of --program, whose operations and initial values have to be those of the
-recording. A recording that TSO allows is answered as by `judge`.",
+recording. With `--labels` the labels of these events follow the line `events`, a line each.
+A recording that TSO allows is answered as by `judge`.",
     statuses: "Exit status:
   0  TSO allows the recording
   1  an error of the command line, a file or memory, as standard error says
   2  the recording is a violation of TSO
-  3  the recording or the program was refused, as the line `refused: ..` says
+  3  the recording, the program or the labels were refused, as the line `refused: ..` says
 
 Example:
   tsotest reduce recording.json --program store_buffering.litmus",

@@ -223,6 +223,13 @@ const STATES: ArgumentRow = ArgumentRow {
     help: "The most states that are looked at, from 1 to 4294967295 [default: 1000000]",
 };
 
+const LABELS: ArgumentRow = ArgumentRow {
+    name: "labels",
+    takes: Takes::Text,
+    value: "FILE",
+    help: "Shows a label beside each event, a line of this file for each: a file, or - for standard input",
+};
+
 const OBSERVED: ArgumentRow = ArgumentRow {
     name: "observed",
     takes: Takes::Text,
@@ -285,15 +292,15 @@ pub const COMMANDS: &[CommandRow] = &[
     },
     CommandRow {
         name: "explain",
-        arguments: &[FILE, NAMES, WORDS],
+        arguments: &[FILE, NAMES, LABELS, WORDS],
     },
     CommandRow {
         name: "draw",
-        arguments: &[FILE, NAMES, ALL, WORDS],
+        arguments: &[FILE, NAMES, LABELS, ALL, WORDS],
     },
     CommandRow {
         name: "reduce",
-        arguments: &[FILE, NAMES, WORDS],
+        arguments: &[FILE, NAMES, LABELS, WORDS],
     },
     CommandRow {
         name: "verify",

@@ -1,5 +1,5 @@
 -- What each command answers, why it stops, and which inputs it opens.
-use Rattle.std.specs.Prelude.{◌≡◌, ◌∷◌, [], ℕ, List, Option, None, Some, map, option_map, string_bytes}
+use Rattle.std.specs.Prelude.{◌≡◌, ◌++◌, ◌∷◌, [], ℕ, List, Option, None, Some, map, option_map, string_bytes}
 use Rattle.command_line.specs.declared.options.ExplainOptions.{ExplainOptions}
 use Rattle.command_line.specs.declared.options.Options.{Options}
 use Rattle.command_line.specs.declared.options.Options.TheVariants.{Run, Judge, Trials, Live, Replay, Explain, Draw}
@@ -22,9 +22,10 @@ abbrev pub maybe_name : Option (List ℕ) → List (List ℕ)
 maybe_name None = []
 maybe_name (Some name) = name ∷ []
 
--- the recording, then the program where one is named
+-- the recording, then the program and the labels where these are named
 abbrev pub render_names : ExplainOptions → List (List ℕ)
 render_names o = string_bytes o.file ∷ maybe_name (option_map string_bytes o.program)
+    ++ maybe_name (option_map string_bytes o.labels)
 
 -- the names of the inputs of a command, in the order in which they are opened
 abbrev pub input_names : Options → List (List ℕ)

@@ -1,40 +1,66 @@
 //! The commands `explain`, `draw` and `reduce`.
-ghost use Rattle.std.specs.Prelude.{◌∷◌, [], IfErr, IfOk, Some};
+ghost use Rattle.std.specs.Prelude.{◌≡◌, IfErr, IfOk, option_map, string_bytes};
 ghost use Rattle.inputs.specs.Inputs.{CanRead, ReadsNamed};
-ghost use Rattle.commands.specs.Command.{render_names};
-ghost use Rattle.commands.specs.Render.{IsNamesStop, IsRenderingStop, IsRendered, IsRenderedBy};
+ghost use Rattle.commands.specs.Command.{maybe_name, render_names};
+ghost use Rattle.commands.specs.Render.{AreLabelsGiven, IsLabellingStop, IsNamesStop, IsProgramGiven, IsRendered};
+ghost use Rattle.commands.specs.Render.{IsRenderingStop};
 
 use answers::{Rendering, rendered_answer};
 use command_line::ExplainOptions;
 use devices::Host;
+use event_texts::Labels;
 use explanation::is_program_of;
-use inputs::{CommandStop, program_at, recording_at};
+use inputs::{CommandStop, labels_at, program_at, recording_at};
+use program::Program;
 use recording::Recording;
 use report::Answer;
 use std::alloc::Global;
 
-/// The rendering of a recording, by the program of this name, of which it has to be one.
-fn named_answer<H: Host>(
+/// The program of this name, of which the recording has to be one; none where none is named.
+fn program_given<H: Host>(
     alloc: Global,
-    rendering: Rendering,
     recording: &Recording,
-    name: &str,
+    name: &Option<String>,
     host: &mut H,
-) -> Result<Answer, CommandStop>
+) -> Result<Option<Program>, CommandStop>
     requires { CanRead (H.log host.old).tally }
-    ensures ok { IfOk result (IsRenderedBy (H.bytes host.old) rendering recording.now (Some name.now)) }
-    ensures err { IfErr result (λ stop. IsNamesStop (H.bytes host.old) (Some name.now) stop recording.now) }
-    ensures reads { ReadsNamed (name.now ∷ []) (H.log host.old) (H.log host.new) result }
+    ensures ok { IfOk result (IsProgramGiven (H.bytes host.old) (option_map string_bytes name.now) recording.now) }
+    ensures err { IfErr result
+        (λ stop. IsNamesStop (H.bytes host.old) (option_map string_bytes name.now) stop recording.now) }
+    ensures reads { ReadsNamed (maybe_name (option_map string_bytes name.now)) (H.log host.old) (H.log host.new) result }
+    ensures kept { H.bytes host.new ≡ H.bytes host.old }
 {
-    let program = program_at(alloc, host, name)?;
+    let Some(name) = name else {
+        return Ok(None);
+    };
+    let program = program_at(alloc, host, name.as_str())?;
     if is_program_of(&program, recording) {
-        Ok(rendered_answer(alloc, rendering, recording, Some(&program))?)
+        Ok(Some(program))
     } else {
         Err(CommandStop::of_line(alloc, "refused: N9\n"))
     }
 }
 
-/// Renders the recording of a named input; it is read before the program is opened.
+/// The labels of this name, one for each event of the recording; none where none are named.
+fn labels_given<H: Host>(
+    alloc: Global,
+    recording: &Recording,
+    name: &Option<String>,
+    host: &mut H,
+) -> Result<Labels, CommandStop>
+    requires { CanRead (H.log host.old).tally }
+    ensures ok { IfOk result (AreLabelsGiven (H.bytes host.old) (option_map string_bytes name.now) recording.now) }
+    ensures err { IfErr result
+        (λ stop. IsLabellingStop (H.bytes host.old) (option_map string_bytes name.now) stop recording.now) }
+    ensures reads { ReadsNamed (maybe_name (option_map string_bytes name.now)) (H.log host.old) (H.log host.new) result }
+{
+    match name {
+        Some(name) => labels_at(alloc, host, name.as_str(), recording),
+        None => Ok(Labels::none(alloc)),
+    }
+}
+
+/// Renders the recording of a named input; it is read before the program is opened, and this before the labels are.
 pub fn render_command<H: Host>(
     alloc: Global,
     rendering: Rendering,
@@ -47,8 +73,7 @@ pub fn render_command<H: Host>(
     ensures reads { ReadsNamed (render_names options.now) (H.log host.old) (H.log host.new) result }
 {
     let recording = recording_at(alloc, host, options.file.as_str())?;
-    match &options.program {
-        Some(name) => named_answer(alloc, rendering, &recording, name.as_str(), host),
-        None => Ok(rendered_answer(alloc, rendering, &recording, None)?),
-    }
+    let program = program_given(alloc, &recording, &options.program, host)?;
+    let labels = labels_given(alloc, &recording, &options.labels, host)?;
+    Ok(rendered_answer(alloc, rendering, &recording, program.as_ref(), labels)?)
 }

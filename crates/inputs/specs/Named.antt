@@ -1,12 +1,13 @@
--- The program or the recording that a named input is, and why it is not read.
-use Rattle.std.specs.Prelude.{◌≡◌, ℕ, List, Option, Some, Ok, Err, string_bytes}
+-- The program, the recording or the labels that a named input is, and why it is not read.
+use Rattle.std.specs.Prelude.{◌≡◌, ◌≢◌, ◌⊎◌, ◌++◌, ◌∷◌, [], ℕ, List, Option, Some, Ok, Err, codes, length, string_bytes}
 use Rattle.program.specs.Parts.{Parts}
 use Rattle.program.specs.Text.{reading}
 use Rattle.recording.specs.declared.fault.RecError.{RecError}
-use Rattle.recording.specs.Execution.{Execution}
+use Rattle.recording.specs.Execution.{Execution, event_count}
 use Rattle.recorder.specs.Reading.{IsReadingResult}
 use Rattle.verdicts.specs.Refusal.{recording_line}
-use Rattle.litmus.specs.Refusals.{line_refusal_name}
+use Rattle.event_texts.specs.Labels.{labels_in}
+use Rattle.litmus.specs.Refusals.{line_refusal_name, refusal_line}
 use Rattle.inputs.specs.declared.command_stop.CommandStop.{CommandStop}
 use Rattle.inputs.specs.declared.command_stop.CommandStop.TheVariants.{Refused, Failed}
 use Rattle.inputs.specs.Inputs.{AreBytesOf, IsInputError}
@@ -36,6 +37,28 @@ IsRecordingStop inputs name (Refused refusal) = (bytes : List ℕ) × AreBytesOf
     × (refused : RecError) × IsReadingResult bytes (Err refused)
     × (recording_line refused ≡ Some (string_bytes refusal.line))
 IsRecordingStop inputs name (Failed error) = IsInputError inputs name error
+
+-- the input of this name has a label for each event of the recording
+pub record AreLabelsAt (inputs : List ℕ → Option (List ℕ)) (name : List ℕ) (x : Execution) (labels : List (List ℕ))
+    : Type 0 where
+  pub text : List ℕ
+  pub given : AreBytesOf inputs name text
+  pub read : labels_in text ≡ Ok labels
+  pub each : length labels ≡ event_count x
+
+-- the line that is printed for a text that has no label for each event: its first line that is too long, or that there
+-- are not as many lines as events
+abbrev pub IsLabelsRefusal : List ℕ → Execution → List ℕ → Type 0
+IsLabelsRefusal text x line =
+    ((n : ℕ) × (labels_in text ≡ Err n) × (line ≡ refusal_line (codes "A1") n))
+    ⊎ ((labels : List (List ℕ)) × (labels_in text ≡ Ok labels) × (length labels ≢ event_count x)
+    × (line ≡ codes "refused: A2" ++ 10 ∷ []))
+
+-- the named input has no label for each event of the recording, or isn't read
+abbrev pub IsLabelsStop : (List ℕ → Option (List ℕ)) → List ℕ → CommandStop → Execution → Type 0
+IsLabelsStop inputs name (Refused refusal) x = (text : List ℕ) × AreBytesOf inputs name text
+    × IsLabelsRefusal text x (string_bytes refusal.line)
+IsLabelsStop inputs name (Failed error) x = IsInputError inputs name error
 
 -- the input of this name is a program, of which this holds
 abbrev pub OfProgram : (List ℕ → Option (List ℕ)) → List ℕ → (Parts → Type 0) → Type 0

@@ -1,13 +1,14 @@
-//! The program or the recording that a named input is.
+//! The program, the recording or the labels that a named input is.
 ghost use Rattle.std.specs.Prelude.{◌≡◌, ◌∷◌, [], IfErr, IfOk};
 ghost use Rattle.inputs.specs.Inputs.{CanRead, ReadsNamed};
-ghost use Rattle.inputs.specs.Named.{IsProgramAt, IsProgramStop, IsRecordingAt, IsRecordingStop};
+ghost use Rattle.inputs.specs.Named.{AreLabelsAt, IsLabelsStop, IsProgramAt, IsProgramStop, IsRecordingAt, IsRecordingStop};
 
 use crate::command_error::CommandError;
 use crate::command_stop::{CommandStop, PrintedRefusal};
 use crate::reading::text_at;
 use crate::refusal::line_refusal;
 use devices::Host;
+use event_texts::{LabelError, Labels, labels_in};
 use litmus::{line_refusal_name, parse};
 use program::{LitmusError, Program};
 use recorder::read_recording;
@@ -55,5 +56,38 @@ pub fn recording_at<H: Host>(
             Some(line) => Err(CommandStop::Refused(PrintedRefusal { line, quote: None })),
             None => Err(CommandStop::Failed(CommandError::OutOfMemory)),
         },
+    }
+}
+
+/// The labels of the events of a recording that a named input has, or why they are not read.
+pub fn labels_at<H: Host>(
+    alloc: Global,
+    host: &mut H,
+    name: &str,
+    recording: &Recording,
+) -> Result<Labels, CommandStop>
+    requires { CanRead (H.log host.old).tally }
+    ensures ok { IfOk result (AreLabelsAt (H.bytes host.old) name.now recording.now) }
+    ensures err { IfErr result (λ stop. IsLabelsStop (H.bytes host.old) name.now stop recording.now) }
+    ensures reads { ReadsNamed (name.now ∷ []) (H.log host.old) (H.log host.new) result }
+    ensures kept { H.bytes host.new ≡ H.bytes host.old }
+{
+    recording.sound();
+    let text = text_at(alloc, host, name)?;
+    match labels_in(alloc, text.as_slice()) {
+        Ok(labels) => {
+            if labels.len() == recording.len() {
+                Ok(labels)
+            } else {
+                Err(CommandStop::of_line(alloc, "refused: A2\n"))
+            }
+        }
+        Err(LabelError::TooLong(line)) => Err(CommandStop::Refused(line_refusal(
+            alloc,
+            "A1",
+            line,
+            text.as_slice(),
+        )?)),
+        Err(LabelError::OutOfMemory) => Err(CommandStop::Failed(CommandError::OutOfMemory)),
     }
 }
