@@ -76,6 +76,12 @@ stopped_again (Ok x) xs ys stop a b h same = absurd same
 stopped_again (Err e) xs ys stop a b h same = subst (λ (t : CommandStop). AreStopped (xs ++ ys) t a b) (sym same)
     (stopped_after [] xs ys stop a a b (read_none a) h)
 
+-- what hands on the stop of the last
+pub stopped_last : {X : Type 0} (r : Result X CommandStop) (xs : List (List ℕ)) (stop : CommandStop) (a b : HostLog)
+    → AreStopped xs stop a b → IsErrAnd r (λ e. e ≡ stop) → ReadsNamed xs a b r
+stopped_last (Ok x) xs stop a b h same = absurd same
+stopped_last (Err e) xs stop a b h same = subst (λ (t : CommandStop). AreStopped xs t a b) (sym same) h
+
 -- some were read, then others or not
 pub reads_then : {X : Type 0} (r : Result X CommandStop) (xs ys : List (List ℕ)) (a b c : HostLog)
     → AreRead xs a b → ReadsNamed ys b c r → ReadsNamed (xs ++ ys) a c r
