@@ -18,7 +18,7 @@ struct text {
 };
 
 static struct tsotest_record record;
-static struct text recording, program, verdict, explanation, drawing, reduction;
+static struct text recording, program, labels, verdict, explanation, drawing, reduction;
 /* Of the last call of judge, of all runs before this one, and of all runs. */
 static struct tsotest_counts counts, sums_before, sums;
 static double seconds;
@@ -56,7 +56,8 @@ typedef enum tsotest_fault recorded_text(struct tsotest_record *, char *, size_t
 static int is_recorded(struct text *text, recorded_text *of)
 {
     text->len = 0;
-    if (has_room(text, TSOTEST_MAX_RECORDING_BYTES) && !of(&record, text->bytes, text->room - 1, &text->len))
+    /* No text of a record is longer than its labels may be. */
+    if (has_room(text, TSOTEST_MAX_LABELS_BYTES) && !of(&record, text->bytes, text->room - 1, &text->len))
         return 1;
     text->len = 0;
     return 0;
@@ -251,6 +252,11 @@ void tsotest_dpi_commit_event(int event)
     tsotest_record_commit_event(&record, event);
 }
 
+void tsotest_dpi_label(int event, const char *label)
+{
+    tsotest_record_label(&record, event, label);
+}
+
 int tsotest_dpi_judge(void)
 {
     double start = now();
@@ -274,6 +280,12 @@ const char *tsotest_dpi_program(void)
 {
     is_recorded(&program, tsotest_program_text);
     return shown(&program);
+}
+
+const char *tsotest_dpi_labels(void)
+{
+    is_recorded(&labels, tsotest_labels_text);
+    return shown(&labels);
 }
 
 const char *tsotest_dpi_verdict(void)
@@ -304,7 +316,8 @@ int tsotest_dpi_save(const char *prefix)
         return 1;
     if (record.error)
         return 0;
-    return !(are_recorded() && is_written(prefix, ".json", &recording) && is_written(prefix, ".litmus", &program)
+    return !(are_recorded() && is_recorded(&labels, tsotest_labels_text) && is_written(prefix, ".json", &recording)
+             && is_written(prefix, ".litmus", &program) && is_written(prefix, ".labels", &labels)
              && is_written(prefix, ".verdict", &verdict));
 }
 

@@ -35,7 +35,10 @@
  * r.message and tsotest_write_log have the values as they were recorded. C turns a negative number or a fraction into a value in
  * silence: compile with -Wconversion -Wsign-conversion.
  *
- * A record takes 30 KB, holds no pointers, asks for no memory, and needs no freeing. Each thread may have its own. Where several
+ * tsotest_record_label gives an event a label, such as a cycle, a pc or an instruction: tsotest_labels_text gives the labels of all
+ * events, for `tsotest explain FILE --labels LABELS`, which shows each beside its event.
+ *
+ * A record takes 63 KB, holds no pointers, asks for no memory, and needs no freeing. Each thread may have its own. Where several
  * threads write one record, each holds a lock over a step of the design and the call that records it, so that calls come in the
  * order in which memory took the writes.
  *
@@ -62,6 +65,10 @@ extern "C" {
 /* No text of a recording, or of its program, is longer, in bytes. */
 #define TSOTEST_MAX_RECORDING_BYTES 32768
 
+/* No label is longer, in bytes, and no text of labels. */
+#define TSOTEST_MAX_LABEL_BYTES 64
+#define TSOTEST_MAX_LABELS_BYTES (TSOTEST_RECORD_EVENTS * (TSOTEST_MAX_LABEL_BYTES + 1))
+
 /* No text of counts is longer, in bytes. */
 #define TSOTEST_MAX_COUNTS_BYTES 256
 
@@ -77,6 +84,7 @@ enum tsotest_fault {
     TSOTEST_SHORT_BUFFER, /* the text has no room */
     TSOTEST_WRITE_FAILED, /* the file can't be written */
     TSOTEST_EMPTY,        /* no event was recorded */
+    TSOTEST_BAD_LABEL,    /* a label is too long, or has a newline */
     /* Of the design, as a rule. None of these is a recording: each is a violation that needs no judge. */
     TSOTEST_STRAY_VALUE, /* a read got a value that nobody wrote there */
     TSOTEST_LOST_STORE,  /* a write never reached memory */
@@ -121,6 +129,7 @@ struct tsotest_record {
     int16_t slot[2 * TSOTEST_RECORD_EVENTS]; /* the first write of a value to an address, or -1 */
     struct tsotest_event event[TSOTEST_RECORD_EVENTS];
     struct tsotest_commit commit[TSOTEST_RECORD_EVENTS];
+    char label[TSOTEST_RECORD_EVENTS][TSOTEST_MAX_LABEL_BYTES + 1]; /* with a 0 byte at its end */
 };
 
 /* How much was recorded. */
@@ -234,6 +243,7 @@ static inline int tsotest_event_(struct tsotest_record *r, char kind, int core, 
     e->given_source = -2;
     e->read = read;
     e->written = written;
+    r->label[r->events][0] = '\0';
     return r->events++;
 }
 
@@ -276,6 +286,23 @@ static inline int tsotest_record_failed_cas(struct tsotest_record *r, int core, 
 static inline int tsotest_record_fence(struct tsotest_record *r, int core)
 {
     return tsotest_event_(r, 'F', core, 0, 0, 0);
+}
+
+/* The label of an event, a text of at most 64 bytes without a newline; the last one that is given. Answers the event, or -1. */
+static inline int tsotest_record_label(struct tsotest_record *r, int event, const char *label)
+{
+    size_t len;
+    if (r->error)
+        return -1;
+    if (event < 0 || event >= r->events)
+        return tsotest_record_fail(r, TSOTEST_NO_SUCH, "event %d: there is none to label", event);
+    len = strlen(label);
+    if (len > TSOTEST_MAX_LABEL_BYTES)
+        return tsotest_record_fail(r, TSOTEST_BAD_LABEL, "the label of event %d has more than %d bytes", event, TSOTEST_MAX_LABEL_BYTES);
+    if (memchr(label, '\n', len))
+        return tsotest_record_fail(r, TSOTEST_BAD_LABEL, "the label of event %d has a newline", event);
+    memcpy(r->label[event], label, len + 1);
+    return event;
 }
 
 static inline struct tsotest_event *tsotest_read_(struct tsotest_record *r, int event)
@@ -848,6 +875,22 @@ static inline enum tsotest_fault tsotest_program_text(struct tsotest_record *r, 
     return o.len <= size ? TSOTEST_NO_FAULT : TSOTEST_SHORT_BUFFER;
 }
 
+/* Writes the labels of the events, for `tsotest explain FILE --labels LABELS`: a line for each event, in the order in which the
+ * recording numbers them, which is empty where the event has no label. Otherwise as tsotest_recording_text. */
+static inline enum tsotest_fault tsotest_labels_text(struct tsotest_record *r, char *out, size_t size, size_t *len)
+{
+    struct tsotest_out_ o = {out, size, 0};
+    *len = 0;
+    if (tsotest_settle_(r))
+        return r->error;
+    for (int n = 0; n < r->events; n++) {
+        tsotest_put_text_(&o, r->label[r->ordered[n]]);
+        tsotest_put_text_(&o, "\n");
+    }
+    *len = o.len;
+    return o.len <= size ? TSOTEST_NO_FAULT : TSOTEST_SHORT_BUFFER;
+}
+
 /* The recording to a file; it takes 32 KB of stack. TSOTEST_WRITE_FAILED is not kept. */
 static inline enum tsotest_fault tsotest_write_recording(struct tsotest_record *r, FILE *file)
 {
@@ -865,6 +908,17 @@ static inline enum tsotest_fault tsotest_write_program(struct tsotest_record *r,
     char out[TSOTEST_MAX_RECORDING_BYTES];
     size_t len;
     enum tsotest_fault fault = tsotest_program_text(r, out, sizeof out, &len);
+    if (!fault && (fwrite(out, 1, len, file) != len || fflush(file)))
+        return TSOTEST_WRITE_FAILED;
+    return fault;
+}
+
+/* The labels of its events. */
+static inline enum tsotest_fault tsotest_write_labels(struct tsotest_record *r, FILE *file)
+{
+    char out[TSOTEST_MAX_LABELS_BYTES];
+    size_t len;
+    enum tsotest_fault fault = tsotest_labels_text(r, out, sizeof out, &len);
     if (!fault && (fwrite(out, 1, len, file) != len || fflush(file)))
         return TSOTEST_WRITE_FAILED;
     return fault;
@@ -921,8 +975,8 @@ static inline void tsotest_write_commit_(const struct tsotest_record *r, const s
                 c->written);
 }
 
-/* What was recorded, a line each: initial values, events in the order of the calls, the sources that were given, commits, and as
- * a remark the fault. That is what is left to look at where a fault gives no recording. examples/log/from_log.c reads it. */
+/* What was recorded, a line each: initial values, events in the order of the calls, the sources and the labels that were given,
+ * commits, and as a remark the fault. That is what is left to look at where a fault gives no recording. examples/log/from_log.c reads it. */
 static inline enum tsotest_fault tsotest_write_log(const struct tsotest_record *r, FILE *file)
 {
     fprintf(file, "cores %d\n", r->cores);
@@ -938,6 +992,9 @@ static inline enum tsotest_fault tsotest_write_log(const struct tsotest_record *
             fprintf(file, "source %d init\n", i);
         else if (tsotest_reads_(r->event[i].kind) && r->event[i].given_source >= 0)
             fprintf(file, "source %d %d\n", i, r->event[i].given_source);
+    for (int i = 0; i < r->events; i++)
+        if (r->label[i][0])
+            fprintf(file, "label %d %s\n", i, r->label[i]);
     for (int i = 0; i < r->commits; i++)
         tsotest_write_commit_(r, &r->commit[i], file);
     if (r->error)

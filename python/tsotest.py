@@ -40,7 +40,7 @@ __all__ = [
     "draw", "explain", "judge", "outcomes", "reduce", "survey", "verify", "version",
 ]
 
-MAX_CORES, MAX_EVENTS, MAX_ADDRESSES = 16, 512, 16
+MAX_CORES, MAX_EVENTS, MAX_ADDRESSES, MAX_LABEL_BYTES = 16, 512, 16, 64
 
 
 class Status(IntEnum):
@@ -320,6 +320,7 @@ class Recorder:
         self._fault = None
         self.cores, self._events, self._commits, self._initial, self._addresses = self._whole("cores", cores), [], [], {}, set()
         self._may_be_empty = self._is_continued = False
+        self._labels = {}
         if self.cores > MAX_CORES:
             self._fail(f"{cores} cores: a recording has {MAX_CORES} at most")
 
@@ -391,6 +392,23 @@ class Recorder:
             self._fail(f"event {event} is no write")
         it = self._events[event]
         self._commit(it.core, it.address, it.written, event)
+
+    def label(self, event, text):
+        """The label of an event, such as a cycle, a pc or an instruction: at most 64 bytes of UTF-8 without a newline."""
+        self._go_on()
+        if not 0 <= event < len(self._events):
+            self._fail(f"event {event}: there is none to label")
+        if len(text.encode()) > MAX_LABEL_BYTES:
+            self._fail(f"the label of event {event} has more than {MAX_LABEL_BYTES} bytes")
+        if "\n" in text:
+            self._fail(f"the label of event {event} has a newline")
+        self._labels[event] = text
+
+    def labels(self):
+        """The labels of the events, a line each, in the order in which the recording numbers them, for `tsotest explain --labels`."""
+        self._settle()
+        numbered = sorted(range(len(self._events)), key=lambda event: self._events[event].number)
+        return "".join(f"{self._labels.get(it, '')}\n" for it in numbered)
 
     def recording(self):
         """The text of the recording, as `tsotest` itself prints it."""

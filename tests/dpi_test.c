@@ -114,6 +114,23 @@ static void empty(void)
     assert(tsotest_dpi_judge() == MISUSED);
 }
 
+/* Labels are those of the run, in the order in which the recording numbers events. */
+static void labelled(void)
+{
+    tsotest_dpi_begin(2);
+    tsotest_dpi_fence(1);
+    tsotest_dpi_label(tsotest_dpi_last_event(), "cycle 9");
+    tsotest_dpi_fence(0);
+    assert(!strcmp(tsotest_dpi_labels(), "\ncycle 9\n"));
+    tsotest_dpi_label(1, "cycle 3");
+    assert(tsotest_dpi_judge() == ALLOWED && !strcmp(tsotest_dpi_labels(), "cycle 3\ncycle 9\n"));
+    tsotest_dpi_continue();
+    tsotest_dpi_fence(0);
+    assert(!strcmp(tsotest_dpi_labels(), "\n"));
+    tsotest_dpi_label(1, "no event");
+    assert(tsotest_dpi_judge() == MISUSED && strstr(tsotest_dpi_message(), "none to label") && !strcmp(tsotest_dpi_labels(), ""));
+}
+
 /* Counts are those of the run that was judged last, and sums those of all runs, each once. */
 static void counted(void)
 {
@@ -215,7 +232,7 @@ static void seconds_of_all(void)
 /* `save` answers 1 where one of its files can't be opened, or has no room. */
 static void unsaved(const char *prefix)
 {
-    const char *suffixes[] = {".log", ".json", ".litmus", ".verdict"};
+    const char *suffixes[] = {".log", ".json", ".litmus", ".labels", ".verdict"};
     char path[1024], own[1000];
     snprintf(own, sizeof own, "%s-full", prefix);
     message_passing(0);
@@ -279,6 +296,7 @@ int main(int argc, char **argv)
     tsotest_dpi_begin(17);
     assert(tsotest_dpi_judge() == MISUSED && strstr(tsotest_dpi_message(), "17 cores"));
     faults();
+    labelled();
     counted();
     whole_recorder();
     drawn();

@@ -257,6 +257,25 @@ def empty():
             yield it.recording()
 
 
+def labelled():
+    """Labels stand in the order in which the recording numbers events; one has at most 64 bytes, and no newline."""
+    r = tsotest.Recorder(2)
+    r.fence(1)
+    r.fence(0)
+    r.label(0, "cycle 9")
+    if r.labels() != "\ncycle 9\n":
+        yield r.labels()
+    r.label(1, "ä" * 32)
+    r.label(0, "")
+    if r.labels() != "ä" * 32 + "\n\n":
+        yield r.labels()
+    for event, text, words in ((2, "x", "none to label"), (0, "x" * 65, "more than 64 bytes"), (0, "ä" * 33, "more than 64 bytes"), (0, "a\nb", "a newline")):
+        r = tsotest.Recorder(1)
+        r.fence(0)
+        if not refused(lambda: r.label(event, text), words, False) or not refused(r.labels, words, False):
+            yield f"a label {text!r} of event {event}"
+
+
 def counted():
     """Counts of a run, their sums, and their text."""
     r = tsotest.Recorder(2)
@@ -374,7 +393,7 @@ def main():
     files = [it.relative_to(DATA) for folder in ("classics", "limits", "recordings") for it in sorted(DATA.glob(f"{folder}/*.json"))]
     with ThreadPoolExecutor(4) as pool:
         failed = [it for part in pool.map(lambda file: [*differs(program, file)], files) for it in part]
-    failed += [*surveyed(program), *layouts(), *coded(), *listed(program), *recorders(), *next_runs(), *empty(), *counted(), *values(), *merged(), *names()]
+    failed += [*surveyed(program), *layouts(), *coded(), *listed(program), *recorders(), *next_runs(), *empty(), *labelled(), *counted(), *values(), *merged(), *names()]
     if tsotest.version() + "\n" != commanded(program, ["--version"])[1]:
         failed.append(f"the version is {tsotest.version()}")
     print(*failed, sep="\n", end="\n" * bool(failed))

@@ -17,6 +17,7 @@ static void fails(enum tsotest_fault fault, bool is_of_design, const char *words
         abort();
     }
     assert(tsotest_program_text(&r, out, sizeof out, &len) == fault && len == 0);
+    assert(tsotest_labels_text(&r, out, sizeof out, &len) == fault && len == 0);
 }
 
 typedef enum tsotest_fault text_of(struct tsotest_record *, char *, size_t, size_t *);
@@ -177,8 +178,9 @@ static void written_logs(void)
     tsotest_record_source(&r, c, a);
     tsotest_record_commit_event(&r, b);
     tsotest_record_commit(&r, 0, 0x44, 9);
+    tsotest_record_label(&r, a, "pc 80000004: sw a0, (a1)");
     const char *log = "cores 2\ninit 0x40 7\ninit 0x44 9\nld 0 0x48 0\nst 0 0x44 9\nrmw 1 0x44 9 9\ncas 1 0x44 9\nfence 1\n"
-                      "source 2 init\nsource 3 1\ncommit 2\ncommit 0 0x44 9\n";
+                      "source 2 init\nsource 3 1\nlabel 1 pc 80000004: sw a0, (a1)\ncommit 2\ncommit 0 0x44 9\n";
     logs(log);
     tsotest_record_load(&r, 2, 0x40, 7);
     strcat(strcpy(out, log), "# core 2: the recording has 2\n");
@@ -225,6 +227,41 @@ static void empty(void)
     tsotest_record_fence(&r, 0);
     tsotest_record_continue(&r);
     fails(TSOTEST_EMPTY, false, "no event was recorded");
+}
+
+/* Labels stand in the order in which the recording numbers events; one has at most 64 bytes, and no newline. */
+static void labels(void)
+{
+    const char *longest = "0123456789abcdef0123456789abcdef0123456789abcdef0123456789abcdef";
+    char longer[66];
+    tsotest_record_begin(&r, 2);
+    int late = tsotest_record_load(&r, 1, 0x40, 1), early = tsotest_record_store(&r, 0, 0x40, 1);
+    tsotest_record_fence(&r, 0);
+    tsotest_record_commit(&r, 0, 0x40, 1);
+    gives(tsotest_labels_text, "\n\n\n");
+    assert(tsotest_record_label(&r, late, "cycle 9") == late && tsotest_record_label(&r, early, "cycle 3") == early);
+    gives(tsotest_labels_text, "cycle 3\n\ncycle 9\n");
+    assert(tsotest_record_label(&r, late, longest) == late && tsotest_record_label(&r, early, "") == early);
+    strcat(strcat(strcpy(out, "\n\n"), longest), "\n");
+    char text[128];
+    strcpy(text, out);
+    gives(tsotest_labels_text, text);
+    logs("cores 2\nld 1 0x40 1\nst 0 0x40 1\nfence 0\nlabel 0 0123456789abcdef0123456789abcdef0123456789abcdef0123456789abcdef\n"
+         "commit 0 0x40 1\n");
+    tsotest_record_begin(&r, 1);
+    tsotest_record_fence(&r, 0);
+    gives(tsotest_labels_text, "\n");
+    assert(tsotest_record_label(&r, 1, "no event") == -1);
+    fails(TSOTEST_NO_SUCH, false, "event 1: there is none to label");
+    tsotest_record_begin(&r, 1);
+    assert(tsotest_record_label(&r, tsotest_record_fence(&r, 0), "two\nlines") == -1);
+    fails(TSOTEST_BAD_LABEL, false, "the label of event 0 has a newline");
+    tsotest_record_begin(&r, 1);
+    strcat(strcpy(longer, longest), "x");
+    assert(tsotest_record_label(&r, tsotest_record_fence(&r, 0), longer) == -1);
+    fails(TSOTEST_BAD_LABEL, false, "the label of event 0 has more than 64 bytes");
+    tsotest_record_label(&r, -1, "after a fault");
+    fails(TSOTEST_BAD_LABEL, false, "the label of event 0 has more than 64 bytes");
 }
 
 /* The text that counts have. */
@@ -586,11 +623,12 @@ int main(void)
     counts();
     wide_values();
     many_wide_values();
+    labels();
     merged_stores();
     merged_commits();
     queued_invalidations();
     longest();
     refusals();
-    assert(sizeof r <= 30 * 1024);
+    assert(sizeof r <= 63 * 1024);
     return 0;
 }

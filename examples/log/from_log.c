@@ -10,14 +10,16 @@
  *   cas CORE ADDRESS READ           a compare-and-swap that wrote nothing
  *   fence CORE
  *   source EVENT WRITE              the write that an event read, or `init`; events count from 0 in the order of the log
+ *   label EVENT TEXT                a label of the event: all after the space
  *   commit CORE ADDRESS VALUE       a write reached memory
  *   commit EVENT                    a write reached memory, given by its event
  *   merged CORE ADDRESS VALUE       a store reached memory, and with it the stores that its entry of the buffer merged
  *
  * Numbers are decimal, or hexadecimal after 0x; values are below 2^64. A line that begins with # is left out.
  *
- * Usage: from_log [FILE..]; the lines of the files, one after another, are one log. Without a file, and for `-`, it reads standard
- * input. The recording goes to standard output. The status is 0, or 1 where there is no recording: standard error says why.
+ * Usage: from_log [--labels] [FILE..]; the lines of the files, one after another, are one log. Without a file, and for `-`, it reads
+ * standard input. The recording goes to standard output, or with --labels the labels of its events, for `tsotest explain --labels`.
+ * The status is 0, or 1 where there is no recording: standard error says why.
  *
  *   cc -O2 -I include examples/log/from_log.c -o from_log && ./from_log examples/log/mp.log | tsotest explain - */
 #include "tsotest_record.h"
@@ -84,12 +86,25 @@ static int record(struct tsotest_record *r, const char *word, int count, const u
     return r->error ? -1 : 0;
 }
 
+/* Records the label of an event; 0, or -1. */
+static int read_label(struct tsotest_record *r, char *rest)
+{
+    char *label;
+    unsigned long event = strtoul(rest, &label, 10);
+    if (label == rest || *label != ' ')
+        return -1;
+    label[strcspn(label, "\n")] = '\0';
+    return tsotest_record_label(r, place(event), label + 1) >= 0 ? 0 : -1;
+}
+
 /* Records what a line says after its word; 0, or -1. */
 static int read_line(struct tsotest_record *r, const char *word, char *rest)
 {
     uint64_t n[MOST] = {0};
     char *init = strcmp(word, "source") ? NULL : strstr(rest, " init");
     int count;
+    if (!strcmp(word, "label"))
+        return read_label(r, rest);
     if (init)
         *init = '\0';
     count = numbers(rest, n);
@@ -132,13 +147,15 @@ static int read_file(struct tsotest_record *r, const char *name)
 int main(int argc, char **argv)
 {
     static struct tsotest_record r;
-    const char *input = "-", *const *names = argc > 1 ? (const char *const *)argv + 1 : &input;
-    int count = argc > 1 ? argc - 1 : 1;
+    bool prints_labels = argc > 1 && !strcmp(argv[1], "--labels");
+    int first = prints_labels ? 2 : 1;
+    const char *input = "-", *const *names = argc > first ? (const char *const *)argv + first : &input;
+    int count = argc > first ? argc - first : 1;
     tsotest_record_begin(&r, 0);
     for (int i = 0; i < count; i++)
         if (read_file(&r, names[i]))
             return 1;
-    if (tsotest_write_recording(&r, stdout)) {
+    if (prints_labels ? tsotest_write_labels(&r, stdout) : tsotest_write_recording(&r, stdout)) {
         fprintf(stderr, "%s\n", r.error ? r.message : "cannot write");
         return 1;
     }

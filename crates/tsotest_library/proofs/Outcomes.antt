@@ -1,5 +1,5 @@
 -- How answers come out.
-use Rattle.std.proofs.Common.{◌≡◌, ◌≢◌, ◌⊎◌, inl, inr, ℕ, Bool, List, Option, false, is_some, nat_lt, refl, subst}
+use Rattle.std.proofs.Common.{◌≡◌, ◌≢◌, ◌⊎◌, inl, inr, [], ℕ, Bool, List, Option, false, is_some, nat_lt, refl, subst}
 use Rattle.std.proofs.Common.{sym, true}
 use Rattle.std.specs.Prelude.{if◌then◌else◌}
 use Rattle.program.specs.Parts.{Parts}
@@ -56,27 +56,27 @@ answer_outcome bytes a (inl (x, read, verdict, found, outcome, printed)) = verdi
 answer_outcome bytes a (inr refused) = inr (inr refused.outcome)
 
 -- what is left of a recording
-reduced_outcome : (x : Execution) (p : Option Parts) (a : Answer) → IsReducedAnswer x p a
+reduced_outcome : (x : Execution) (p : Option Parts) (labels : List (List ℕ)) (a : Answer) → IsReducedAnswer x p labels a
     → ComesOut outcome.Ordered a.outcome
-reduced_outcome x p a is = one_of outcome.Ordered a.outcome (inl refl) (λ order_not violation_not.
+reduced_outcome x p labels a is = one_of outcome.Ordered a.outcome (inl refl) (λ order_not violation_not.
     violation_not ((is.violation (λ m tso.
     let rendered = is.ordered m tso in no_verdict rendered.verdict a.outcome rendered.outcome order_not
     violation_not)).outcome))
 
 -- what is told of a recording
-rendered_outcome : (rendering : Rendering) (x : Execution) (p : Option Parts) (a : Answer)
-    → IsRenderedAnswer rendering x p a
+rendered_outcome : (rendering : Rendering) (x : Execution) (p : Option Parts) (labels : List (List ℕ)) (a : Answer)
+    → IsRenderedAnswer rendering x p labels a
     → ComesOut outcome.Ordered a.outcome
-rendered_outcome Words x p a is = verdict_outcome is.verdict a.outcome is.outcome
-rendered_outcome (Picture all) x p a is = verdict_outcome is.verdict a.outcome is.outcome
-rendered_outcome Reduction x p a is = reduced_outcome x p a is
+rendered_outcome Words x p labels a is = verdict_outcome is.verdict a.outcome is.outcome
+rendered_outcome (Picture all) x p labels a is = verdict_outcome is.verdict a.outcome is.outcome
+rendered_outcome Reduction x p labels a is = reduced_outcome x p labels a is
 
 -- the same by the text of its program
 rendered_by_outcome : (rendering : Rendering) (x : Execution) (text : List ℕ) (a : Answer)
     → IsRenderedByText rendering x text a
     → ComesOut outcome.Ordered a.outcome
 rendered_by_outcome rendering x text a
-    (inl rendered) = rendered_outcome rendering x rendered.program a rendered.rendered
+    (inl rendered) = rendered_outcome rendering x rendered.program [] a rendered.rendered
 rendered_by_outcome rendering x text a (inr refused) = elim refused.1 [
   | inl line ↦ inr (inr line.outcome)
   | inr other ↦ inr (inr other.outcome)

@@ -27,11 +27,11 @@ abbrev pub IsProgramOfText : Execution → List ℕ → Option Parts → Type 0
 IsProgramOfText x text None = text ≡ []
 IsProgramOfText x text (Some program) = (text ≢ []) × IsOwn x text program
 
--- the rendering of a recording, with its program
+-- the rendering of a recording, with its program, and without labels of its events
 pub record IsRenderedWith (rendering : Rendering) (x : Execution) (text : List ℕ) (answer : Answer) : Type 0 where
   pub program : Option Parts
   pub given : IsProgramOfText x text program
-  pub rendered : IsRenderedAnswer rendering x program answer
+  pub rendered : IsRenderedAnswer rendering x program [] answer
 
 -- the rendering of it, or that the text of the program is refused
 abbrev pub IsRenderedByText : Rendering → Execution → List ℕ → Answer → Type 0

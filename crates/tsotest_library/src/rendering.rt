@@ -5,6 +5,7 @@ ghost use Rattle.tsotest_library.specs.Rendered.{IsOwnOrRefused, IsRenderedByTex
 
 use answers::{Rendering, rendered_answer};
 use common::OutOfMemory;
+use event_texts::Labels;
 use explanation::is_program_of;
 use litmus::{line_refusal_name, parse, refusal_line};
 use program::{LitmusError, Program};
@@ -50,10 +51,16 @@ fn rendered_by(
     ensures { IfOk result (IsRenderedByText rendering recording.now text.now) }
 {
     if text.is_empty() {
-        return rendered_answer(alloc, rendering, recording, None);
+        return rendered_answer(alloc, rendering, recording, None, Labels::none(alloc));
     }
     match own_program(alloc, recording, text)? {
-        Ok(program) => rendered_answer(alloc, rendering, recording, Some(&program)),
+        Ok(program) => rendered_answer(
+            alloc,
+            rendering,
+            recording,
+            Some(&program),
+            Labels::none(alloc),
+        ),
         Err(refused) => Ok(refused),
     }
 }
