@@ -1,7 +1,6 @@
 -- The commands, what each takes, and what clap reads of words by them.
-use Rattle.std.specs.Prelude.{◌≡◌, ◌&&◌, Bool, IfOk, List, [], ◌∷◌, Option, Result, Some, codes, false, fold, map}
+use Rattle.std.specs.Prelude.{◌≡◌, IfOk, List, [], ◌∷◌, Option, Result, Some, codes, false, fold, map}
 use Rattle.std.specs.Prelude.{true}
-use Rattle.std.specs.Str.{bytes_eq}
 use Rattle.clap.specs.Words.{App, Row, Rule, Text, app_of, fault_of, new_app, new_rule}
 use Rattle.clap.specs.Words.{subcommand_of, with_subcommand}
 use Rattle.clap.specs.declared.builder.command.Command.{Command}
@@ -44,6 +43,7 @@ commands = (
       (codes "PROGRAM", Place) ∷ (codes "states", Number) ∷ (codes "observed", Word) ∷ (codes "unseen", Nothing)
           ∷ (codes "exists", Word) ∷ (codes "never", Word) ∷ (codes "items", Shown) ∷ (codes "words", Nothing) ∷ [],
     )
+    ∷ (codes "complete", (codes "FILE", Place) ∷ (codes "states", Number) ∷ (codes "words", Nothing) ∷ [])
     ∷ []
 
 -- a row of the code's table
@@ -94,17 +94,6 @@ with_commands = fold (λ app c. with_subcommand app (command_app c).top) bare_ap
 -- the program with its commands; its name is not among the words
 abbrev pub program_app : App
 program_app = with_commands commands
-
--- the words ask what refusals mean
-abbrev pub asks_of_refusals : List Text → Bool
-asks_of_refusals (first ∷ second ∷ []) = bytes_eq first (codes "help") && bytes_eq second (codes "refusals")
-asks_of_refusals words = false
-
--- the words ask what one refusal means, by its name
-abbrev pub asks_of_one : List Text → Bool
-asks_of_one (first ∷ name ∷ []) = bytes_eq first (codes "help")
-asks_of_one (first ∷ second ∷ name ∷ []) = bytes_eq first (codes "help") && bytes_eq second (codes "refusals")
-asks_of_one words = false
 
 -- clap finds no fault in the words
 abbrev pub HaveNoMistake : List Text → Type 0

@@ -8,8 +8,9 @@ use Rattle.clap.specs.declared.error.kind.ErrorKind.TheVariants as kinds
 use Rattle.command_line.specs.declared.options.Limits.{Limits}
 use Rattle.command_line.specs.declared.options.Options.{Options}
 use Rattle.command_line.specs.declared.options.Options.TheVariants.{Run, Judge, Trials, Live, Replay, Explain, Draw, Reduce}
-use Rattle.command_line.specs.declared.options.Options.TheVariants.{Verify, Survey, Merge, Outcomes}
+use Rattle.command_line.specs.declared.options.Options.TheVariants.{Verify, Survey, Merge, Outcomes, Complete}
 use Rattle.command_line.specs.declared.options.OutcomesOptions.{OutcomesOptions}
+use Rattle.command_line.specs.declared.options.CompleteOptions.{CompleteOptions}
 use Rattle.command_line.specs.declared.options.Question.{Question}
 use Rattle.command_line.specs.declared.options.Question.TheVariants.{All, Observed, Exists, Never, Show}
 use Rattle.command_line.specs.declared.options.VerifyOptions.{VerifyOptions}
@@ -29,9 +30,10 @@ use Rattle.command_line.specs.declared.options.OptionStop.TheVariants.{OutOfMemo
 use Rattle.command_line.specs.declared.options.TheConstants.{ATTEMPTS, BUFFER, DEFAULT_SEED, LIMIT, TRIALS}
 use Rattle.command_line.specs.declared.options.TheConstants.{STATES, WORKERS}
 use Rattle.command_line.specs.declared.values.Values.{Values}
-use Rattle.command_line.specs.Commands.{HaveNoMistake, asks_of_one, asks_of_refusals, command_of, program_app}
+use Rattle.command_line.specs.Commands.{HaveNoMistake, command_of, program_app}
 use Rattle.command_line.specs.Entries.{HasEntries, machine_fault_of, misfit_of, names_standard_input_twice}
 use Rattle.command_line.specs.Entries.{number_of, number_or, show_of}
+use Rattle.command_line.specs.Meanings.{asks_of_refusals, meaning_asked}
 use Rattle.clap.specs.Words.{all_of, one_of, subcommand_rows_of}
 use Rattle.clap.specs.declared.parser.matches.ArgMatches.{ArgMatches}
 use Rattle.command_line.specs.Refusals.{refusal_of, shape_asked}
@@ -154,6 +156,11 @@ pub record AreOutcomesOptions (o : OutcomesOptions) (rows : List Row) : Type 0 w
   pub question : IsQuestion o.question (is_given (codes "unseen") rows) rows
   pub states : IsNumber (codes "states") STATES rows o.states
 
+-- each option of complete is its entry, or else its default
+pub record AreCompleteOptions (o : CompleteOptions) (rows : List Row) : Type 0 where
+  pub file : first_of (codes "FILE") rows ≡ Some (string_bytes o.file)
+  pub states : IsNumber (codes "states") STATES rows o.states
+
 -- the options are those of the command with this name
 abbrev pub AreOptionsOf : Options → Text → List Row → Type 0
 AreOptionsOf (Run o) name rows = (name ≡ codes "run") × AreRunOptions o rows
@@ -168,6 +175,7 @@ AreOptionsOf (Verify o) name rows = (name ≡ codes "verify") × AreVerifyOption
 AreOptionsOf (Survey o) name rows = (name ≡ codes "survey") × AreSurveyOptions o rows
 AreOptionsOf (Merge o) name rows = (name ≡ codes "merge") × AreMergeOptions o rows
 AreOptionsOf (Outcomes o) name rows = (name ≡ codes "outcomes") × AreOutcomesOptions o rows
+AreOptionsOf (Complete o) name rows = (name ≡ codes "complete") × AreCompleteOptions o rows
 
 -- the options are those of the command that was read, whose inputs are not both standard input; they go together, and
 -- no entry is refused
@@ -195,7 +203,7 @@ IsMatchesStop fault (Some command) = IsEntryStop fault command.1
 -- entries give none
 abbrev pub IsOptionStop : OptionStop → List Text → Type 0
 IsOptionStop RefusalMeanings words = asks_of_refusals words ≡ true
-IsOptionStop (RefusalMeaning line) words = asks_of_one words ≡ true
+IsOptionStop (RefusalMeaning line) words = meaning_asked words ≡ Some line.now
 IsOptionStop StandardInputTwice words = HaveNoMistake words × IsMatchesStop StandardInputTwice (command_of words)
 IsOptionStop (Misfit misfit) words = HaveNoMistake words × IsMatchesStop (Misfit misfit) (command_of words)
 IsOptionStop (Clap error) words = (takes program_app words ≡ false)

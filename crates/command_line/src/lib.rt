@@ -13,7 +13,7 @@ pub mod words;
 
 pub use meanings::{REFUSAL_MEANINGS, meaning_named};
 pub use options::{
-    DrawOptions, ExplainOptions, FileOptions, JudgeOptions, LiveOptions, MergeOptions, Misfit,
+    CompleteOptions, DrawOptions, ExplainOptions, FileOptions, JudgeOptions, LiveOptions, MergeOptions, Misfit,
     OptionRefusal, OptionStop, Options, OutcomesOptions, Question, RunOptions, SurveyOptions,
     TrialsOptions, VerifyOptions,
 };

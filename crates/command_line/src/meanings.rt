@@ -1,5 +1,8 @@
 //! What refusals mean, for a person.
 
+ghost use Rattle.std.specs.Prelude.{◌≡◌, option_map};
+ghost use Rattle.command_line.specs.Meanings.{is_meaning_of, meaning_of};
+
 /// What `help refusals` prints: what each refusal means and, between parentheses, what to know about it. N is the number
 /// that the refusal has.
 pub const REFUSAL_MEANINGS: &str =
@@ -61,15 +64,21 @@ K11  `--show` is not below the number of recordings (recordings are numbered fro
 K12  `--states` is not from 1 to 4294967295 (it counts the states that are looked at)
 ";
 
-/// The line that says what the refusal with this name means; none where no refusal has it. No clause says which line it is;
-/// tests do.
-pub fn meaning_named(name: &str) -> Option<&'static str> {
-    for line in REFUSAL_MEANINGS.lines() {
-        if let Some((first, rest)) = line.split_once(' ') {
-            if first == name && rest.starts_with(' ') {
-                return Some(line);
-            }
-        }
+/// Whether a line says what the refusal with this name means.
+fn is_meaning_of(name: &[u8], line: &[u8]) -> bool
+    ensures { result ≡ is_meaning_of name.now line.now }
+{
+    if name.iter().any(|b| *b == b' ') || !line.starts_with(name) {
+        return false;
     }
-    None
+    line[name.len()..].starts_with(b"  ")
+}
+
+/// The line that says what the refusal with this name means; none where no refusal has it.
+pub fn meaning_named(name: &str) -> Option<&'static str>
+    ensures { option_map (λ line. line.now) result ≡ meaning_of name.now }
+{
+    REFUSAL_MEANINGS
+        .lines()
+        .find(|line| is_meaning_of(name.as_bytes(), line.as_bytes()))
 }

@@ -8,7 +8,7 @@ ghost use Rattle.command_line.specs.Refusals.{refusal_of};
 
 use crate::entries::{maybe_text, maybe_texts};
 use crate::options::{
-    DrawOptions, ExplainOptions, FileOptions, JudgeOptions, LiveOptions, MergeOptions, Options,
+    CompleteOptions, DrawOptions, ExplainOptions, FileOptions, JudgeOptions, LiveOptions, MergeOptions, Options,
     OutcomesOptions, Question, RunOptions, SurveyOptions, TrialsOptions, VerifyOptions,
 };
 use crate::values::Values;
@@ -224,6 +224,10 @@ pub fn named_options(
         "survey" => Ok(Options::Survey(survey_options(alloc, matches, values)?)),
         "merge" => Ok(Options::Merge(merge_options(alloc, matches)?)),
         "outcomes" => Ok(Options::Outcomes(outcomes_options(alloc, matches, values)?)),
+        "complete" => Ok(Options::Complete(CompleteOptions {
+            file: given(alloc, matches, "FILE")?,
+            states: values.states,
+        })),
         _ => unreachable!(),
     }
 }

@@ -95,6 +95,8 @@ pub enum Options {
     Merge(MergeOptions),
     /// `outcomes`.
     Outcomes(OutcomesOptions),
+    /// `complete`.
+    Complete(CompleteOptions),
 }
 
 /// What `run` is asked: the names of the program and of the script, and the machine and the steps of
@@ -221,6 +223,15 @@ pub struct OutcomesOptions {
     pub program: String,
     /// What is asked of its outcomes.
     pub question: Question,
+    /// How many states are looked at at most, 1 to 2^32 - 1.
+    pub states: usize,
+}
+
+/// What `complete` is asked: the name of the values of a run, and how many states are looked at.
+#[derive(Debug, Drop)]
+pub struct CompleteOptions {
+    /// The name of the values.
+    pub file: String,
     /// How many states are looked at at most, 1 to 2^32 - 1.
     pub states: usize,
 }

@@ -42,7 +42,7 @@ const RUN: Page = Page {
 A program has a line `core` for each core, and after it a line for each of its operations:
 `st NAME VALUE` stores, `ld NAME` loads, `fence` is a full fence; `swap NAME VALUE` writes,
 `add NAME VALUE` adds, and `cas NAME EXPECT VALUE` writes where it reads what it expects,
-each at once with reading the old value. Behind the last operation `init NAME VALUE` says
+each at once with reading the old value. After the last operation `init NAME VALUE` says
 what an address begins with where that is not 0.
 
 Each core has a store buffer and a MOESI cache in front of one memory. A script has a line
@@ -54,8 +54,8 @@ program is complete or the attempts are used up; blocked steps count. The same s
 the same steps. With a script, seed and attempts are not used.
 
 The recording is one line of JSON: what each operation read and wrote, for each address its
-writes in memory order, and all initial values where one is not 0 or a `cas` failed. Behind
-it stands the verdict, as `judge` prints it; of a run that is not complete only `unfinished`
+writes in memory order, and all initial values where one is not 0 or a `cas` failed. After
+it comes the verdict, as `judge` prints it; of a run that is not complete only `unfinished`
 is printed.
 
 A machine may be wrong in one way, and may then record a violation: with `no-bypass` loads
@@ -147,7 +147,7 @@ const REPLAY: Page = Page {
     about: "Gives a program and a script whose run makes a recording again",
     more: "Gives a program and a script whose run makes a recording again.
 
-The line `buffer N` says which `--buffer` is enough. Behind an empty line stands a litmus
+The line `buffer N` says which `--buffer` is enough. After an empty line comes a litmus
 program, which names its addresses a0, a1 and so on, and after another empty line a
 script. The run performs the first memory order, in dictionary order, that TSO allows for
 the recording. A violation is answered as by `judge`. The recording's addresses have to be
@@ -217,7 +217,7 @@ const REDUCE: Page = Page {
     more: "Cuts the recording of a violation down to the events that it needs.
 
 A violation needs the events of its verdict, the write that each of them read, and so on.
-The line `events` has their numbers. Behind an empty line stands a litmus program of these
+The line `events` has their numbers. After an empty line comes a litmus program of these
 events alone, and after another empty line their recording and its verdict, which is the
 same one with the numbers that they have there. The addresses are named a0, a1 and so on, or
 as in the program of --program, whose operations and initial values have to be those of the
@@ -346,6 +346,32 @@ Examples:
   tsotest outcomes store_buffering.litmus --show '0:r0=0 1:r0=0'",
 };
 
+const COMPLETE: Page = Page {
+    about: "Says whether TSO allows the values of a run, without sources and write lists",
+    more: "Says whether TSO allows the values that a run read and wrote, where nobody recorded which
+write each read took its value from, nor in which order memory took the writes.
+
+The values are a recording of version 3: `cores` as in version 2, but an event may leave out
+its source `s`; `init`, what each address begins with; and perhaps `final`, what each ends
+with, or null where that is not known.
+
+Where TSO allows them, the recording is printed with sources and write lists by which it
+does, so that `judge` finds an order. Else `impossible` is printed: no sources and write
+lists make it lawful.
+
+The states of a machine with store buffers are looked at. If there are more than `--states`
+allows, `unfinished` is printed.",
+    statuses: "Exit status:
+  0  TSO allows the values: the recording is printed
+  1  an error of the command line, a file or memory, as standard error says
+  2  TSO does not allow them
+  3  the values or a number was refused, as the line `refused: ..` says
+  4  there are more states than may be looked at
+
+Example:
+  tsotest complete values.json | tsotest judge -",
+};
+
 /// The page of the command with this name.
 pub fn page_of(name: &str) -> Page {
     match name {
@@ -361,6 +387,7 @@ pub fn page_of(name: &str) -> Page {
         "survey" => SURVEY,
         "merge" => MERGE,
         "outcomes" => OUTCOMES,
+        "complete" => COMPLETE,
         _ => PROGRAM,
     }
 }

@@ -216,6 +216,13 @@ const ALL: ArgumentRow = ArgumentRow {
     help: "Draws all events, not only those that a violation needs",
 };
 
+const VALUES: ArgumentRow = ArgumentRow {
+    name: "FILE",
+    takes: Takes::Place,
+    value: "",
+    help: "The values of a run: a file, or - for standard input",
+};
+
 const STATES: ArgumentRow = ArgumentRow {
     name: "states",
     takes: Takes::Number,
@@ -325,5 +332,9 @@ pub const COMMANDS: &[CommandRow] = &[
     CommandRow {
         name: "outcomes",
         arguments: &[PROGRAM, STATES, OBSERVED, UNSEEN, EXISTS, NEVER, SHOW_ITEMS, WORDS],
+    },
+    CommandRow {
+        name: "complete",
+        arguments: &[VALUES, STATES, WORDS],
     },
 ];

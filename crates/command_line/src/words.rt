@@ -1,8 +1,9 @@
 //! The words of a command line.
-ghost use Rattle.std.specs.Prelude.{◌≡◌, Err, IfErr, IfOk, IfSome, IsSomeAnd, map, string_bytes, true};
+ghost use Rattle.std.specs.Prelude.{◌≡◌, Err, IfErr, IfOk, IsSomeAnd, List, Some, ℕ, false, map, option_map, string_bytes, true};
 ghost use Rattle.clap.specs.Words.{app_of, subcommand_rows_of};
-ghost use Rattle.command_line.specs.Commands.{HaveNoMistake, asks_of_one, asks_of_refusals, command_of, program_app};
+ghost use Rattle.command_line.specs.Commands.{HaveNoMistake, command_of, program_app};
 ghost use Rattle.command_line.specs.Entries.{HasEntries};
+ghost use Rattle.command_line.specs.Meanings.{IsLineOf, asks_of_refusals, meaning_asked};
 ghost use Rattle.command_line.specs.Options.{AreOptions, AreTaken, IsMatchesStop, IsOptionStop};
 
 use crate::build::command;
@@ -54,7 +55,7 @@ fn asks_of_refusals(words: &[String]) -> bool
 
 /// The line that says what the refusal means that the words ask of by its name; none where they ask of none.
 fn meaning_asked(words: &[String]) -> Option<&'static str>
-    ensures { IfSome result (λ _. asks_of_one (map string_bytes words.now) ≡ true) }
+    ensures { option_map (λ line. line.now) result ≡ meaning_asked (map string_bytes words.now) }
 {
     match words {
         [first, name] if first.as_str() == "help" => meaning_named(name.as_str()),
@@ -71,6 +72,8 @@ pub fn options(alloc: Global, words: &[String]) -> Result<Options, OptionStop>
     ensures err { IfErr result (λ stop. IsOptionStop stop (map string_bytes words.now)) }
     ensures taken { IfOk result (λ _. HaveNoMistake (map string_bytes words.now)) }
     ensures meanings { asks_of_refusals (map string_bytes words.now) ≡ true → result ≡ Err OptionStop.RefusalMeanings }
+    ensures meaning { (line : List ℕ) → asks_of_refusals (map string_bytes words.now) ≡ false
+        → meaning_asked (map string_bytes words.now) ≡ Some line → IsLineOf line result }
 {
     if asks_of_refusals(words) {
         return Err(OptionStop::RefusalMeanings);
