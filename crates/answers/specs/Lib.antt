@@ -4,3 +4,4 @@ pub mod Reduced
 pub mod Campaign
 pub mod Survey
 pub mod Outcomes
+pub mod Completion

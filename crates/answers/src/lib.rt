@@ -2,6 +2,7 @@
 #![tactic(auto)]
 
 mod campaigns;
+mod completion_answers;
 mod outcome_answers;
 mod reduced;
 mod rendering;
@@ -9,6 +10,7 @@ mod runs;
 mod shown;
 
 pub use campaigns::{campaign_answer, survey_answer, trials_answer};
+pub use completion_answers::completion_answer;
 pub use outcome_answers::{Condition, condition_answer, log_answer, met_answer, outcomes_answer};
 pub use outcome_answers::unfinished_answer;
 pub use reduced::{line_answer, reduced_answer};

@@ -3,12 +3,14 @@ use Rattle.std.specs.Prelude.{◌≡◌, ◌++◌, ◌∷◌, [], ℕ, List, Opt
 use Rattle.command_line.specs.declared.options.ExplainOptions.{ExplainOptions}
 use Rattle.command_line.specs.declared.options.Options.{Options}
 use Rattle.command_line.specs.declared.options.Options.TheVariants.{Run, Judge, Trials, Live, Replay, Explain, Draw}
-use Rattle.command_line.specs.declared.options.Options.TheVariants.{Reduce, Verify, Survey, Merge, Outcomes}
+use Rattle.command_line.specs.declared.options.Options.TheVariants.{Reduce, Verify, Survey, Merge, Outcomes, Complete}
 use Rattle.verdicts.specs.declared.printed.Answer.{Answer}
 use Rattle.answers.specs.declared.rendering.Rendering.TheVariants.{Words, Picture, Reduction}
 use Rattle.inputs.specs.declared.command_stop.CommandStop.{CommandStop}
 use Rattle.inputs.specs.declared.command_stop.CommandStop.TheVariants.{Refused, Failed}
 use Rattle.inputs.specs.declared.command_error.CommandError.TheVariants.{OutOfMemory}
+use Rattle.inputs.specs.Named.{IsValuesStop}
+use Rattle.commands.specs.Complete.{IsCompletedInput}
 use Rattle.commands.specs.Judge.{IsFileAnswer, IsJudgeError, IsVerified, IsVerifyStop}
 use Rattle.commands.specs.Merge.{IsMerged, IsMergeStop}
 use Rattle.commands.specs.Outcomes.{IsOutcomes, IsOutcomesStop, question_names}
@@ -41,6 +43,7 @@ input_names (Verify o) = string_bytes o.recording ∷ string_bytes o.verdict ∷
 input_names (Survey o) = string_bytes o.file ∷ []
 input_names (Merge o) = map string_bytes o.files.items
 input_names (Outcomes o) = string_bytes o.program ∷ question_names o.question
+input_names (Complete o) = string_bytes o.file ∷ []
 
 -- what a command answers to its options and inputs
 abbrev pub IsAnswerTo : (List ℕ → Option (List ℕ)) → Options → Answer → Type 0
@@ -56,6 +59,7 @@ IsAnswerTo inputs (Verify o) answer = IsVerified inputs o answer
 IsAnswerTo inputs (Survey o) answer = IsSurveyOf inputs o o.show answer
 IsAnswerTo inputs (Merge o) answer = IsMerged inputs o answer
 IsAnswerTo inputs (Outcomes o) answer = IsOutcomes inputs o answer
+IsAnswerTo inputs (Complete o) answer = IsCompletedInput inputs o answer
 
 -- why a command with these options and inputs stops
 abbrev pub IsCommandStop : (List ℕ → Option (List ℕ)) → Options → CommandStop → Type 0
@@ -72,3 +76,4 @@ IsCommandStop inputs (Verify o) stop = IsVerifyStop inputs o stop
 IsCommandStop inputs (Survey o) stop = IsSurveyStop inputs o o.show stop
 IsCommandStop inputs (Merge o) stop = IsMergeStop inputs o stop
 IsCommandStop inputs (Outcomes o) stop = IsOutcomesStop inputs o stop
+IsCommandStop inputs (Complete o) stop = IsValuesStop inputs (string_bytes o.file) stop

@@ -6,4 +6,5 @@ pub mod Render
 pub mod Survey
 pub mod Merge
 pub mod Outcomes
+pub mod Complete
 pub mod Command

@@ -10,6 +10,7 @@ ghost use Rattle.commands.specs.Perform.{IsErrorFor, IsErrorOf, IsNoJudge, IsSho
 ghost use Rattle.commands.specs.Perform.{PrintsAtOnce, PrintsEarly, Tallies};
 ghost use Rattle.commands.specs.Survey.{TellsEach};
 
+use crate::complete_command::complete_command;
 use crate::judge_command::judge_command;
 use crate::live_command::live_command;
 use crate::merge_command::merge_command;
@@ -104,6 +105,7 @@ fn answer_to<R: Threads + Wait + Sync, H: Host>(
         Options::Survey(survey) => survey_command(rt, alloc, survey, host),
         Options::Merge(merge) => merge_command(alloc, merge, host),
         Options::Outcomes(outcomes) => outcomes_command(alloc, outcomes, host),
+        Options::Complete(complete) => complete_command(alloc, complete, host),
     }
 }
 

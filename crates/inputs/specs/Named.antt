@@ -1,10 +1,12 @@
--- The program, the recording or the labels that a named input is, and why it is not read.
+-- The program, the recording, the values or the labels that a named input is, and why it is not read.
 use Rattle.std.specs.Prelude.{◌≡◌, ◌≢◌, ◌⊎◌, ◌++◌, ◌∷◌, [], ℕ, List, Option, Some, Ok, Err, codes, length, string_bytes}
 use Rattle.program.specs.Parts.{Parts}
 use Rattle.program.specs.Text.{reading}
 use Rattle.recording.specs.declared.fault.RecError.{RecError}
 use Rattle.recording.specs.Execution.{Execution, event_count}
 use Rattle.recorder.specs.Reading.{IsReadingResult}
+use Rattle.values.specs.Values.{Values}
+use Rattle.values_text.specs.Reading.{IsValuesReading}
 use Rattle.verdicts.specs.Refusal.{recording_line}
 use Rattle.event_texts.specs.Labels.{labels_in}
 use Rattle.litmus.specs.Refusals.{line_refusal_name, refusal_line}
@@ -24,6 +26,12 @@ pub record IsRecordingAt (inputs : List ℕ → Option (List ℕ)) (name : List 
   pub bytes : List ℕ
   pub given : AreBytesOf inputs name bytes
   pub read : IsReadingResult bytes (Ok x)
+
+-- the bytes of the input of this name give the values
+pub record AreValuesAt (inputs : List ℕ → Option (List ℕ)) (name : List ℕ) (v : Values) : Type 0 where
+  pub bytes : List ℕ
+  pub given : AreBytesOf inputs name bytes
+  pub read : IsValuesReading bytes (Ok v)
 
 -- the named program is refused or isn't read
 abbrev pub IsProgramStop : (List ℕ → Option (List ℕ)) → List ℕ → CommandStop → Type 0
@@ -60,6 +68,13 @@ IsLabelsStop inputs name (Refused refusal) x = (text : List ℕ) × AreBytesOf i
     × IsLabelsRefusal text x (string_bytes refusal.line)
 IsLabelsStop inputs name (Failed error) x = IsInputError inputs name error
 
+-- the named input is no text of values, or isn't read
+abbrev pub IsValuesStop : (List ℕ → Option (List ℕ)) → List ℕ → CommandStop → Type 0
+IsValuesStop inputs name (Refused refusal) = (bytes : List ℕ) × AreBytesOf inputs name bytes
+    × (refused : RecError) × IsValuesReading bytes (Err refused)
+    × (recording_line refused ≡ Some (string_bytes refusal.line))
+IsValuesStop inputs name (Failed error) = IsInputError inputs name error
+
 -- the input of this name is a program, of which this holds
 abbrev pub OfProgram : (List ℕ → Option (List ℕ)) → List ℕ → (Parts → Type 0) → Type 0
 OfProgram inputs name Holds = (program : Parts) × IsProgramAt inputs name program × Holds program
@@ -67,3 +82,7 @@ OfProgram inputs name Holds = (program : Parts) × IsProgramAt inputs name progr
 -- the input of this name is a recording, of which this holds
 abbrev pub OfRecording : (List ℕ → Option (List ℕ)) → List ℕ → (Execution → Type 0) → Type 0
 OfRecording inputs name Holds = (x : Execution) × IsRecordingAt inputs name x × Holds x
+
+-- the input of this name has values, of which this holds
+abbrev pub OfValues : (List ℕ → Option (List ℕ)) → List ℕ → (Values → Type 0) → Type 0
+OfValues inputs name Holds = (v : Values) × AreValuesAt inputs name v × Holds v

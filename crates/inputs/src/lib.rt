@@ -14,6 +14,6 @@ pub use command_error::CommandError;
 pub use command_stop::{CommandStop, PrintedRefusal};
 pub use failure::{asks_for_words, error_text};
 pub use meanings::{explained, quoted};
-pub use named::{labels_at, program_at, recording_at};
+pub use named::{labels_at, program_at, recording_at, values_at};
 pub use reading::{opened, text_at};
 pub use refusal::{line_refusal, option_refusal, step_refusal_name};

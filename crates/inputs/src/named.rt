@@ -1,7 +1,8 @@
-//! The program, the recording or the labels that a named input is.
+//! The program, the recording, the values or the labels that a named input is.
 ghost use Rattle.std.specs.Prelude.{◌≡◌, ◌∷◌, [], IfErr, IfOk};
 ghost use Rattle.inputs.specs.Inputs.{CanRead, ReadsNamed};
 ghost use Rattle.inputs.specs.Named.{AreLabelsAt, IsLabelsStop, IsProgramAt, IsProgramStop, IsRecordingAt, IsRecordingStop};
+ghost use Rattle.inputs.specs.Named.{AreValuesAt, IsValuesStop};
 
 use crate::command_error::CommandError;
 use crate::command_stop::{CommandStop, PrintedRefusal};
@@ -14,6 +15,8 @@ use program::{LitmusError, Program};
 use recorder::read_recording;
 use recording::Recording;
 use std::alloc::Global;
+use values::Values;
+use values_text::read_values;
 use verdicts::recording_line;
 
 /// The program of a named input, or why it is not read.
@@ -89,5 +92,23 @@ pub fn labels_at<H: Host>(
             text.as_slice(),
         )?)),
         Err(LabelError::OutOfMemory) => Err(CommandStop::Failed(CommandError::OutOfMemory)),
+    }
+}
+
+/// The values of a named input, or why they are not read.
+pub fn values_at<H: Host>(alloc: Global, host: &mut H, name: &str) -> Result<Values, CommandStop>
+    requires { CanRead (H.log host.old).tally }
+    ensures ok { IfOk result (λ values. AreValuesAt (H.bytes host.old) name.now values) }
+    ensures err { IfErr result (IsValuesStop (H.bytes host.old) name.now) }
+    ensures reads { ReadsNamed (name.now ∷ []) (H.log host.old) (H.log host.new) result }
+    ensures kept { H.bytes host.new ≡ H.bytes host.old }
+{
+    let bytes = text_at(alloc, host, name)?;
+    match read_values(alloc, bytes.as_slice()) {
+        Ok(values) => Ok(values),
+        Err(refusal) => match recording_line(alloc, refusal)? {
+            Some(line) => Err(CommandStop::Refused(PrintedRefusal { line, quote: None })),
+            None => Err(CommandStop::Failed(CommandError::OutOfMemory)),
+        },
     }
 }

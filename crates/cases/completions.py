@@ -1,0 +1,184 @@
+#!/usr/bin/env python3
+"""Whether a program completes this many random values, and only those that TSO allows, as trying all orders of their events shows.
+
+Usage: crates/cases/completions.py PROGRAM N [SEED]
+"""
+import json
+import random
+import subprocess
+import sys
+
+sys.dont_write_bytecode = True
+
+READS, WRITES = "LRC", "SR"
+
+
+def text_of(values):
+    return json.dumps(values, separators=(",", ":"), sort_keys=True) + "\n"
+
+
+def numbered(values):
+    """The events with their cores, in the order of their numbers."""
+    return [(core, event) for core, events in enumerate(values["cores"]) for event in events]
+
+
+def final_of(recording):
+    """The value that each address ends with."""
+    events, init = numbered(recording), recording.get("init", [0] * len(recording["writes"]))
+    return [events[writes[-1]][1]["w"] if writes else first for writes, first in zip(recording["writes"], init)]
+
+
+def values_of(recording, keeps=lambda event: False):
+    """The values of a recording, with the sources of the reads that are kept, and without final values."""
+    cores = [[{key: event[key] for key in event if key != "s" or keeps(event)} for event in events] for events in recording["cores"]]
+    return {"cores": cores, "init": recording.get("init", [0] * len(recording["writes"])), "version": 3}
+
+
+def orders(events):
+    """All orders of the events that keep each pair of one core but a plain store and a later plain load."""
+    kept = lambda e, f: events[e][0] == events[f][0] and not (events[e][1]["k"] == "S" and events[f][1]["k"] == "L")
+    before = [[e for e in range(f) if kept(e, f)] for f in range(len(events))]
+
+    def extended(order, left):
+        if not left:
+            yield order
+        for e in left:
+            if all(it in order for it in before[e]):
+                yield from extended([*order, e], [it for it in left if it != e])
+
+    yield from extended([], list(range(len(events))))
+
+
+def source_in(events, order, e):
+    """The last write to the address of a read that is before it in an order, or before it on its core; none is the initial value."""
+    place, (core, event) = {e: i for i, e in enumerate(order)}, events[e]
+    seen = [w for w, (its, other) in enumerate(events) if w != e and other["k"] in WRITES and other["a"] == event["a"]
+            and (place[w] < place[e] or (its == core and w < e))]
+    return max(seen, key=place.get) if seen else None
+
+
+def value_by(values, events, e, source):
+    """The value that a read has of its source."""
+    return values["init"][events[e][1]["a"]] if source is None else events[source][1]["w"]
+
+
+def is_lawful(values, events, order):
+    """Whether in an order each read has the value of its source, which is the known one, and memory ends with the final values."""
+    last = list(values["init"])
+    for e in order:
+        event = events[e][1]
+        if event["k"] in READS:
+            source = source_in(events, order, e)
+            if value_by(values, events, e, source) != event["r"] or ("s" in event and event["s"] != source):
+                return False
+        if event["k"] in WRITES:
+            last[event["a"]] = event["w"]
+    return all(want in (None, got) for want, got in zip(values.get("final", last), last))
+
+
+def is_allowed(values):
+    """Whether TSO allows the values."""
+    events = numbered(values)
+    return any(is_lawful(values, events, order) for order in orders(events))
+
+
+def ran(program, words, text):
+    done = subprocess.run([program, *words], input=text.encode(), stdout=subprocess.PIPE, stderr=subprocess.PIPE, timeout=60)
+    return done.returncode, done.stdout.decode()
+
+
+def completes(program, values, text):
+    """Whether a text is a recording that completes the values, and which the judge allows."""
+    recording = json.loads(text)
+    same = values_of(recording, lambda event: True)
+    for ours, theirs in zip(numbered(same), numbered(values)):
+        if "s" in ours[1] and "s" not in theirs[1]:
+            del ours[1]["s"]
+    final = zip(values.get("final", []), final_of(recording))
+    is_same = {**values, "final": None} == {**same, "final": None} and all(want in (None, got) for want, got in final)
+    status, verdict = ran(program, ["judge", "-"], text)
+    return is_same and status == 0 and verdict.startswith("ordered:")
+
+
+def is_right(program, values):
+    """Whether the program completes values that TSO allows, and calls others impossible."""
+    status, text = ran(program, ["complete", "-"], text_of(values))
+    if is_allowed(values):
+        return status == 0 and completes(program, values, text)
+    return status == 2 and text.startswith("impossible\n")
+
+
+def any_event(dice, addresses):
+    event = {"k": dice.choice("LLLSSSRCF")}
+    if event["k"] != "F":
+        event["a"] = dice.randrange(addresses)
+    if event["k"] in READS:
+        event["r"] = dice.randrange(3)
+    if event["k"] in WRITES:
+        event["w"] = dice.randrange(3)
+    return event
+
+
+def read_in_order(dice, values, events):
+    """Has each event read what it does in some order."""
+    order = next(orders(events))
+    for found in orders(events):
+        order = found
+        if dice.random() < 0.1:
+            break
+    for e in order:
+        if events[e][1]["k"] in READS:
+            events[e][1]["r"] = value_by(values, events, e, source_in(events, order, e))
+
+
+def any_values(dice):
+    """Values of up to six events, of which some have a source, and some addresses a final value."""
+    addresses = dice.choice((1, 2, 2))
+    cores = [[] for _ in range(dice.choice((1, 2, 2, 3)))]
+    for _ in range(dice.randrange(1, 7)):
+        dice.choice(cores).append(any_event(dice, addresses))
+    values = {"cores": cores, "init": [dice.choice((0, 0, 1)) for _ in range(addresses)], "version": 3}
+    events = numbered(values)
+    if dice.random() < 0.5:
+        read_in_order(dice, values, events)
+    for e, (_, event) in enumerate(events):
+        if event["k"] in READS and dice.random() < 0.2:
+            fits = [w for w, (_, it) in enumerate(events) if w != e and it["k"] in WRITES and it["a"] == event["a"] and it["w"] == event["r"]]
+            fits += [None] if values["init"][event["a"]] == event["r"] else []
+            if fits:
+                event["s"] = dice.choice(fits)
+    if dice.random() < 0.5:
+        values["final"] = [dice.choice((None, 0, 1, 2)) for _ in range(addresses)]
+    return values
+
+
+def of_values(program, seed, count):
+    """Of how many random values the program answers what trying all orders shows."""
+    dice, right = random.Random(seed), 0
+    for _ in range(count):
+        values = any_values(dice)
+        if is_right(program, values):
+            right += 1
+        else:
+            print(f"completions: {text_of(values)}", end="")
+    return right
+
+
+def is_classic_right(program, file):
+    """Whether the values of a classic test are answered as trying all orders shows: with what memory ends with and without, and with all sources."""
+    recording = json.loads(file.read_text())
+    alone = values_of(recording)
+    ended = {**alone, "final": final_of(recording)}
+    sourced = {**values_of(recording, lambda event: True), "final": final_of(recording)}
+    return all(is_right(program, it) for it in (alone, ended, sourced))
+
+
+def main():
+    program, count, seed = sys.argv[1], int(sys.argv[2]), int(sys.argv[3]) if len(sys.argv) > 3 else 2026
+    right = of_values(program, seed, count)
+    print(f"{right} of {count} values answered as all orders show")
+    return 0 if right == count else 1
+
+
+if __name__ == "__main__":
+    sys.exit(main())

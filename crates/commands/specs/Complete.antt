@@ -1,0 +1,10 @@
+-- What complete answers.
+use Rattle.std.specs.Prelude.{ℕ, List, Option, string_bytes}
+use Rattle.command_line.specs.declared.options.CompleteOptions.{CompleteOptions}
+use Rattle.verdicts.specs.declared.printed.Answer.{Answer}
+use Rattle.answers.specs.Completion.{IsCompletionAnswer}
+use Rattle.inputs.specs.Named.{OfValues}
+
+-- the values of the named input are completed, or are impossible, or more states would have to be looked at
+abbrev pub IsCompletedInput : (List ℕ → Option (List ℕ)) → CompleteOptions → Answer → Type 0
+IsCompletedInput inputs o answer = OfValues inputs (string_bytes o.file) (λ v. IsCompletionAnswer v answer)
