@@ -1,7 +1,10 @@
 //! What refusals mean, for a person.
 
 ghost use Rattle.std.specs.Prelude.{◌≡◌, option_map};
-ghost use Rattle.command_line.specs.Meanings.{is_meaning_of, meaning_of};
+ghost use Rattle.std.specs.List.{list_any};
+ghost use Rattle.command_line.specs.Meanings.{is_meaning_of, is_space, meaning_in, meaning_of};
+
+use bstr::ByteSlice;
 
 /// What `help refusals` prints: what each refusal means and, between parentheses, what to know about it. N is the number
 /// that the refusal has.
@@ -64,21 +67,34 @@ K11  `--show` is not below the number of recordings (recordings are numbered fro
 K12  `--states` is not from 1 to 4294967295 (it counts the states that are looked at)
 ";
 
+/// Whether a name has a space.
+fn has_space(name: &[u8]) -> bool
+    ensures { result ≡ list_any is_space name.now }
+{
+    name.iter().any(|b| *b == b' ')
+}
+
 /// Whether a line says what the refusal with this name means.
 fn is_meaning_of(name: &[u8], line: &[u8]) -> bool
     ensures { result ≡ is_meaning_of name.now line.now }
 {
-    if name.iter().any(|b| *b == b' ') || !line.starts_with(name) {
+    if has_space(name) || !line.starts_with(name) {
         return false;
     }
     line[name.len()..].starts_with(b"  ")
 }
 
+/// The first line of a text that says what the refusal with this name means.
+fn meaning_in<'a>(text: &'a [u8], name: &[u8]) -> Option<&'a [u8]>
+    ensures { option_map (λ line. line.now) result ≡ meaning_in text.now name.now }
+{
+    text.lines().find(|line| is_meaning_of(name, line))
+}
+
 /// The line that says what the refusal with this name means; none where no refusal has it.
-pub fn meaning_named(name: &str) -> Option<&'static str>
+#[tactic(auto, unfolding(crate::specs::Meanings::meaning_of))]
+pub fn meaning_named(name: &str) -> Option<&'static [u8]>
     ensures { option_map (λ line. line.now) result ≡ meaning_of name.now }
 {
-    REFUSAL_MEANINGS
-        .lines()
-        .find(|line| is_meaning_of(name.as_bytes(), line.as_bytes()))
+    meaning_in(REFUSAL_MEANINGS.as_bytes(), name.as_bytes())
 }

@@ -320,7 +320,7 @@ pub enum OptionStop {
     /// The words ask what refusals mean.
     RefusalMeanings,
     /// The words ask what one refusal means, which this line says.
-    RefusalMeaning(&'static str),
+    RefusalMeaning(&'static [u8]),
     /// `clap` takes the words, and `-` stands for two inputs.
     StandardInputTwice,
     /// `clap` takes the words, and these options don't go together.

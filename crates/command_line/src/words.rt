@@ -3,7 +3,7 @@ ghost use Rattle.std.specs.Prelude.{◌≡◌, Err, IfErr, IfOk, IsSomeAnd, List
 ghost use Rattle.clap.specs.Words.{app_of, subcommand_rows_of};
 ghost use Rattle.command_line.specs.Commands.{HaveNoMistake, command_of, program_app};
 ghost use Rattle.command_line.specs.Entries.{HasEntries};
-ghost use Rattle.command_line.specs.Meanings.{IsLineOf, asks_of_refusals, meaning_asked};
+ghost use Rattle.command_line.specs.Meanings.{IsLineOf, asks_of_refusals, meaning_asked, name_asked};
 ghost use Rattle.command_line.specs.Options.{AreOptions, AreTaken, IsMatchesStop, IsOptionStop};
 
 use crate::build::command;
@@ -53,16 +53,36 @@ fn asks_of_refusals(words: &[String]) -> bool
     }
 }
 
-/// The line that says what the refusal means that the words ask of by its name; none where they ask of none.
-fn meaning_asked(words: &[String]) -> Option<&'static str>
-    ensures { option_map (λ line. line.now) result ≡ meaning_asked (map string_bytes words.now) }
+/// The name of which the words ask what it means.
+fn name_asked(words: &[String]) -> Option<&str>
+    ensures { option_map (λ name. name.now) result ≡ name_asked (map string_bytes words.now) }
 {
     match words {
-        [first, name] if first.as_str() == "help" => meaning_named(name.as_str()),
-        [first, second, name] if first.as_str() == "help" && second.as_str() == "refusals" => {
-            meaning_named(name.as_str())
+        [first, name] => {
+            if first.as_str() == "help" {
+                Some(name.as_str())
+            } else {
+                None
+            }
+        }
+        [first, second, name] => {
+            if first.as_str() == "help" && second.as_str() == "refusals" {
+                Some(name.as_str())
+            } else {
+                None
+            }
         }
         _ => None,
+    }
+}
+
+/// The line that says what the refusal means of which the words ask.
+fn meaning_asked(words: &[String]) -> Option<&'static [u8]>
+    ensures { option_map (λ line. line.now) result ≡ meaning_asked (map string_bytes words.now) }
+{
+    match name_asked(words) {
+        Some(name) => meaning_named(name),
+        None => None,
     }
 }
 

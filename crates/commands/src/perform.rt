@@ -33,11 +33,11 @@ use std::sync::Wait;
 use std::thread::Threads;
 
 /// The line that says what a refusal means, as it is printed.
-fn meaning_answer(alloc: Global, line: &str) -> Result<Answer, CommandStop>
+fn meaning_answer(alloc: Global, line: &[u8]) -> Result<Answer, CommandStop>
     ensures ok { IfOk result (λ answer. (answer.outcome ≡ Outcome.Done) × (answer.text.items ≡ line.now ++ 10 ∷ [])) }
     ensures err { IfErr result (λ stop. stop ≡ CommandStop.Failed CommandError.OutOfMemory) }
 {
-    let mut text = Vec::from_slice(alloc, line.as_bytes())?;
+    let mut text = Vec::from_slice(alloc, line)?;
     let Ok(()) = text.push(b'\n') else {
         return Err(CommandStop::Failed(CommandError::OutOfMemory));
     };

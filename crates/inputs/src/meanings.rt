@@ -15,7 +15,13 @@ fn explained_refusal(
     counted: &str,
     line: Option<&str>,
 ) -> Result<Option<String>, AllocError> {
-    let Some(meaning) = meaning_named(name).and_then(|line| line.strip_prefix(name)) else {
+    let Some(line_named) = meaning_named(name) else {
+        return Ok(None);
+    };
+    let Some(meaning) = str::from_utf8(line_named)
+        .ok()
+        .and_then(|text| text.strip_prefix(name))
+    else {
         return Ok(None);
     };
     let Some((said, advice)) = meaning.trim_start().split_once(" (") else {
