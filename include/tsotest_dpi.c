@@ -18,7 +18,7 @@ struct text {
 };
 
 static struct tsotest_record record;
-static struct text recording, program, labels, verdict, explanation, drawing, reduction;
+static struct text recording, values, program, labels, verdict, explanation, drawing, reduction;
 /* Of the last call of judge, of all runs before this one, and of all runs. */
 static struct tsotest_counts counts, sums_before, sums;
 static double seconds;
@@ -274,6 +274,12 @@ const char *tsotest_dpi_recording(void)
 {
     is_recorded(&recording, tsotest_recording_text);
     return shown(&recording);
+}
+
+const char *tsotest_dpi_values_alone(void)
+{
+    is_recorded(&values, tsotest_values_text);
+    return shown(&values);
 }
 
 const char *tsotest_dpi_program(void)

@@ -24,6 +24,8 @@
  *   if (tsotest_write_recording(&r, stdout))
  *       fprintf(stderr, "%s\n", r.message);
  *
+ * A bench that sees no commits records none, and asks tsotest_values_text for the values alone, which `tsotest complete` takes.
+ *
  * Each call that records an event answers its number, from 0 in the order of the calls, or -1. The first fault is kept: r.error
  * says which, r.message says it in words, and no text is given until the next tsotest_record_begin. So a testbench may ignore
  * what the calls answer, and look at the end. A recording without an event is a fault too, since a monitor that is connected to
@@ -114,6 +116,7 @@ struct tsotest_record {
     enum tsotest_fault error;
     char message[256];
     bool may_be_empty, is_continued;
+    bool is_alone; /* whether the text asked for is that of values alone, which names the sources that were given */
     int cores, events, addresses, commits;
     uint64_t address[TSOTEST_RECORD_ADDRESSES]; /* in the order of the calls */
     uint64_t initial[TSOTEST_RECORD_ADDRESSES];
@@ -530,8 +533,8 @@ static inline int tsotest_settle_commits_(struct tsotest_record *r)
     return 0;
 }
 
-/* The source of a read by its value; -1 may be r->error, or TSOTEST_INITIAL. */
-static inline int tsotest_found_source_(struct tsotest_record *r, int event)
+/* A source of a read by its value, and how many there are; -1 may be r->error, or TSOTEST_INITIAL. */
+static inline int tsotest_some_source_(struct tsotest_record *r, int event, int *sources)
 {
     const struct tsotest_event *e = &r->event[event];
     int found = TSOTEST_INITIAL, count = e->read == r->initial[e->address];
@@ -546,10 +549,19 @@ static inline int tsotest_found_source_(struct tsotest_record *r, int event)
                                    r->is_continued ? "; this run continues another: had each core taken every invalidation before "
                                                      "the cut?"
                                                    : "");
-    if (count > 1)
+    *sources = count;
+    return found;
+}
+
+/* The source of a read by its value, of which there may be one alone; values alone may have several. */
+static inline int tsotest_found_source_(struct tsotest_record *r, int event)
+{
+    const struct tsotest_event *e = &r->event[event];
+    int sources = 0, found = tsotest_some_source_(r, event, &sources);
+    if (sources > 1 && !r->is_alone)
         return tsotest_record_fail(r, TSOTEST_AMBIGUOUS,
                                    "operation %d of core %d read %" PRIu64 " from 0x%" PRIx64 ", of which there are %d sources",
-                                   tsotest_place_(r, event), e->core, e->read, r->address[e->address], count);
+                                   tsotest_place_(r, event), e->core, e->read, r->address[e->address], sources);
     return found;
 }
 
@@ -629,8 +641,8 @@ static inline void tsotest_number_values_(struct tsotest_record *r)
         r->initial_text[r->named[n]] = tsotest_number_of_(&numbers, r->initial[r->named[n]]);
 }
 
-/* Finds what the testbench did not say; answers 0, or -1 and r->error. */
-static inline int tsotest_settle_(struct tsotest_record *r)
+/* Numbers what was recorded; answers 0, or -1 and r->error. */
+static inline int tsotest_prepare_(struct tsotest_record *r)
 {
     if (r->error)
         return -1;
@@ -638,7 +650,24 @@ static inline int tsotest_settle_(struct tsotest_record *r)
         return tsotest_record_fail(r, TSOTEST_EMPTY, "no event was recorded: has the recording begun, and is a monitor connected?");
     tsotest_number_(r);
     tsotest_index_(r);
-    if (tsotest_settle_commits_(r) || tsotest_settle_sources_(r))
+    return 0;
+}
+
+/* Finds what the testbench did not say; answers 0, or -1 and r->error. */
+static inline int tsotest_settle_(struct tsotest_record *r)
+{
+    r->is_alone = false;
+    if (tsotest_prepare_(r) || tsotest_settle_commits_(r) || tsotest_settle_sources_(r))
+        return -1;
+    tsotest_number_values_(r);
+    return 0;
+}
+
+/* Finds what values alone need: no commit, and of each read some source. Answers 0, or -1 and r->error. */
+static inline int tsotest_settle_alone_(struct tsotest_record *r)
+{
+    r->is_alone = true;
+    if (tsotest_prepare_(r) || tsotest_settle_sources_(r))
         return -1;
     tsotest_number_values_(r);
     return 0;
@@ -736,8 +765,9 @@ static inline void tsotest_put_event_(const struct tsotest_record *r, struct tso
     end = tsotest_add_text_(end, ",\"k\":\"");
     *end++ = e->kind;
     *end++ = '"';
-    if (tsotest_reads_(e->kind)) {
+    if (tsotest_reads_(e->kind))
         end = tsotest_add_number_(tsotest_add_text_(end, ",\"r\":"), tsotest_read_text_(r, e));
+    if (tsotest_reads_(e->kind) && !(r->is_alone && e->given_source == -2)) {
         end = tsotest_add_text_(end, ",\"s\":");
         end = e->source < 0 ? tsotest_add_text_(end, "null") : tsotest_add_number_(end, r->event[e->source].number);
     }
@@ -824,6 +854,26 @@ static inline enum tsotest_fault tsotest_recording_text(struct tsotest_record *r
     return o.len <= size ? TSOTEST_NO_FAULT : TSOTEST_SHORT_BUFFER;
 }
 
+/* Writes the values alone, for a bench that sees no commits: the text of version 3, which `tsotest complete` takes. It names the
+ * sources that tsotest_record_source gave and no others, so values may repeat; but the more values are written once, the more is
+ * found. Commits are not looked at, and tsotest_record_continue needs them: each run without them begins by
+ * tsotest_record_begin. A read of a value that nobody wrote is TSOTEST_STRAY_VALUE here, too. Otherwise as
+ * tsotest_recording_text. */
+static inline enum tsotest_fault tsotest_values_text(struct tsotest_record *r, char *out, size_t size, size_t *len)
+{
+    struct tsotest_out_ o = {out, size, 0};
+    *len = 0;
+    if (tsotest_settle_alone_(r))
+        return r->error;
+    tsotest_put_text_(&o, "{\"cores\":[");
+    tsotest_put_cores_(r, &o);
+    tsotest_put_text_(&o, "],\"init\":[");
+    tsotest_put_initials_(r, &o);
+    tsotest_put_text_(&o, "],\"version\":3}\n");
+    *len = o.len;
+    return o.len <= size ? TSOTEST_NO_FAULT : TSOTEST_SHORT_BUFFER;
+}
+
 static inline void tsotest_put_name_(const struct tsotest_record *r, struct tsotest_out_ *out, int address)
 {
     char name[24];
@@ -897,6 +947,17 @@ static inline enum tsotest_fault tsotest_write_recording(struct tsotest_record *
     char out[TSOTEST_MAX_RECORDING_BYTES];
     size_t len;
     enum tsotest_fault fault = tsotest_recording_text(r, out, sizeof out, &len);
+    if (!fault && (fwrite(out, 1, len, file) != len || fflush(file)))
+        return TSOTEST_WRITE_FAILED;
+    return fault;
+}
+
+/* Its values alone. */
+static inline enum tsotest_fault tsotest_write_values(struct tsotest_record *r, FILE *file)
+{
+    char out[TSOTEST_MAX_RECORDING_BYTES];
+    size_t len;
+    enum tsotest_fault fault = tsotest_values_text(r, out, sizeof out, &len);
     if (!fault && (fwrite(out, 1, len, file) != len || fflush(file)))
         return TSOTEST_WRITE_FAILED;
     return fault;

@@ -413,12 +413,28 @@ class Recorder:
     def recording(self):
         """The text of the recording, as `tsotest` itself prints it."""
         names, committed, number_of = self._settle()
-        cores = ",".join("[" + ",".join(self._event_text(it, names, number_of) for it in core) + "]" for core in self._by_core())
+        cores = self._cores_text(lambda it: it.source, names, number_of)
         initial = [number_of(self._initial.get(it, 0)) for it in names]
         has_init = any(initial) or any(it.kind == "C" for it in self._events)
         init = f'"init":[{",".join(map(str, initial))}],"version":2' if has_init else '"version":1'
         writes = ",".join("[" + ",".join(str(self._events[event].number) for event in committed.get(it, [])) + "]" for it in names)
         return f'{{"cores":[{cores}],{init},"writes":[{writes}]}}\n'
+
+    def values_alone(self):
+        """The text of the values alone, for a bench that sees no commits: of version 3, which `tsotest complete` takes.
+
+        It names the sources that `source` gave and no others, so values may repeat; but the more values are written once, the more is found.
+        Commits are not looked at, and `next` needs them. A read of a value that nobody wrote is a fault here, too.
+        """
+        ordered, writes = self._prepare()
+        for event, it in enumerate(self._events):
+            if it.read is not None:
+                self._check_source(event, it, self._sources(event, it, writes)[0] if it.given == "unknown" else it.given)
+        names = self._names(ordered)
+        number_of = self._numbers(ordered, names)
+        cores = self._cores_text(lambda it: it.given, names, number_of)
+        init = ",".join(str(number_of(self._initial.get(it, 0))) for it in names)
+        return f'{{"cores":[{cores}],"init":[{init}],"version":3}}\n'
 
     def program(self):
         """The program that was recorded, as a litmus text, for `explain`, `draw` and `reduce`."""
@@ -502,9 +518,8 @@ class Recorder:
         it = self._events[event]
         return f"operation {sum(e.core == it.core for e in self._events[:event])} of core {it.core}"
 
-    def _settle(self):
-        """Finds what the testbench did not say: the addresses that events use, in order of first use, of each its writes in memory order,
-        and what the text has for a value."""
+    def _prepare(self):
+        """Numbers the events core by core: the events in this order, and the writes of each address and value."""
         self._go_on()
         if not self._events and not self._may_be_empty:
             self._fail("no event was recorded: is a monitor connected?")
@@ -515,12 +530,22 @@ class Recorder:
         for event, it in enumerate(self._events):
             if it.written is not None:
                 writes.setdefault((it.address, it.written), []).append(event)
+        return ordered, writes
+
+    def _settle(self):
+        """Finds what the testbench did not say: the addresses that events use, in order of first use, of each its writes in memory order,
+        and what the text has for a value."""
+        ordered, writes = self._prepare()
         committed = self._settle_commits(writes)
         for event, it in enumerate(self._events):
             if it.read is not None:
                 self._settle_source(event, it, writes)
-        names = list(dict.fromkeys(it.address for it in ordered if it.address is not None))
+        names = self._names(ordered)
         return names, committed, self._numbers(ordered, names)
+
+    def _names(self, ordered):
+        """The addresses that events use, in order of first use."""
+        return list(dict.fromkeys(it.address for it in ordered if it.address is not None))
 
     def _numbers(self, ordered, names):
         """What the text has for a value: each above 2^32 - 1 is numbered by its first use there."""
@@ -565,26 +590,38 @@ class Recorder:
             self._fail(f"core {core}: the value {value} reached 0x{address:x}, and this core executed no such write", True)
         return own[0]
 
-    def _settle_source(self, event, it, writes):
-        initial = self._initial.get(it.address, 0)
-        it.source = it.given
-        if it.given == "unknown":
-            found = ([None] if it.read == initial else []) + writes.get((it.address, it.read), [])
-            if not found:
-                cut = "; this run continues another: had each core taken every invalidation before the cut?" if self._is_continued else ""
-                self._fail(f"{self._place(event)} read {it.read} from 0x{it.address:x}, which nobody wrote there{cut}", True)
-            if len(found) > 1:
-                self._fail(f"{self._place(event)} read {it.read} from 0x{it.address:x}, of which there are {len(found)} sources")
-            it.source = found[0]
-        there = initial if it.source is None else self._events[it.source].written
+    def _sources(self, event, it, writes):
+        """The sources that a read may have by its value: at least one."""
+        found = ([None] if it.read == self._initial.get(it.address, 0) else []) + writes.get((it.address, it.read), [])
+        if not found:
+            cut = "; this run continues another: had each core taken every invalidation before the cut?" if self._is_continued else ""
+            self._fail(f"{self._place(event)} read {it.read} from 0x{it.address:x}, which nobody wrote there{cut}", True)
+        return found
+
+    def _check_source(self, event, it, source):
+        there = self._initial.get(it.address, 0) if source is None else self._events[source].written
         if it.read != there:
             self._fail(f"{self._place(event)} read {it.read} from 0x{it.address:x}, and its source wrote {there}", True)
 
-    def _event_text(self, it, names, number_of):
+    def _settle_source(self, event, it, writes):
+        it.source = it.given
+        if it.given == "unknown":
+            found = self._sources(event, it, writes)
+            if len(found) > 1:
+                self._fail(f"{self._place(event)} read {it.read} from 0x{it.address:x}, of which there are {len(found)} sources")
+            it.source = found[0]
+        self._check_source(event, it, it.source)
+
+    def _cores_text(self, source_of, names, number_of):
+        return ",".join("[" + ",".join(self._event_text(it, source_of(it), names, number_of) for it in core) + "]" for core in self._by_core())
+
+    def _event_text(self, it, source, names, number_of):
         parts = [f'"a":{names.index(it.address)}'] if it.address is not None else []
         parts.append(f'"k":"{it.kind}"')
         if it.read is not None:
-            parts += [f'"r":{number_of(it.read)}', f'"s":{"null" if it.source is None else self._events[it.source].number}']
+            parts.append(f'"r":{number_of(it.read)}')
+            if source != "unknown":
+                parts.append(f'"s":{"null" if source is None else self._events[source].number}')
         if it.written is not None:
             parts.append(f'"w":{number_of(it.written)}')
         return "{" + ",".join(parts) + "}"

@@ -260,10 +260,28 @@ static void unsaved(const char *prefix)
     assert(answer == 1 && tsotest_dpi_save(own) == 0);
 }
 
+/* Values alone, without a commit. */
+static void alone(void)
+{
+    tsotest_dpi_begin(2);
+    tsotest_dpi_store(0, 0x40, 1);
+    tsotest_dpi_store(0, 0x40, 1);
+    tsotest_dpi_load(1, 0x40, 1);
+    tsotest_dpi_load(1, 0x40, 1);
+    tsotest_dpi_source(3, 0);
+    assert(!strcmp(tsotest_dpi_values_alone(), "{\"cores\":[[{\"a\":0,\"k\":\"S\",\"w\":1},{\"a\":0,\"k\":\"S\",\"w\":1}],"
+                                               "[{\"a\":0,\"k\":\"L\",\"r\":1},{\"a\":0,\"k\":\"L\",\"r\":1,\"s\":0}]],"
+                                               "\"init\":[0],\"version\":3}\n"));
+    tsotest_dpi_begin(1);
+    tsotest_dpi_load(0, 0x40, 9);
+    assert(!*tsotest_dpi_values_alone() && strstr(tsotest_dpi_message(), "which nobody wrote there"));
+}
+
 int main(int argc, char **argv)
 {
     assert(argc == 2);
     empty();
+    alone();
     message_passing(1);
     assert(tsotest_dpi_judge() == ALLOWED && !strcmp(tsotest_dpi_verdict(), "ordered: 0 1 2 3\n"));
     assert(!strncmp(tsotest_dpi_explanation(), "TSO allows this recording.", 26));
@@ -304,8 +322,8 @@ int main(int argc, char **argv)
     long_texts();
     seconds_of_all();
     unsaved(argv[1]);
-    struct text *texts[] = {&recording, &program, &verdict, &explanation, &drawing, &reduction};
-    for (int i = 0; i < 6; i++)
+    struct text *texts[] = {&recording, &values, &program, &verdict, &explanation, &drawing, &reduction};
+    for (int i = 0; i < 7; i++)
         free(texts[i]->bytes);
     tsotest_dpi_exit(0);
 }

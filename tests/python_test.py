@@ -212,6 +212,47 @@ def recorders():
         yield following.recording()
 
 
+def values_alone():
+    """Values without commits: sources where they were given, values above 2^32 - 1, and faults."""
+    r = tsotest.Recorder(2)
+    r.store(0, 0x40, 1)
+    r.load(0, 0x44, 0)
+    r.store(1, 0x44, 1)
+    r.load(1, 0x40, 0)
+    want = '{"cores":[[{"a":0,"k":"S","w":1},{"a":1,"k":"L","r":0}],[{"a":1,"k":"S","w":1},{"a":0,"k":"L","r":0}]],"init":[0,0],"version":3}\n'
+    if r.values_alone() != want:
+        yield r.values_alone()
+    r.commit(0, 0x40, 1)
+    if r.values_alone() != want:
+        yield "a commit changes the values alone"
+    r.commit(1, 0x44, 1)
+    if '{"a":1,"k":"L","r":0,"s":null}' not in r.recording():
+        yield r.recording()
+    r = tsotest.Recorder(2)
+    r.initial(0x40, 5)
+    first, late = r.store(0, 0x40, 5), r.failed_cas(1, 0x40, 5)
+    r.fence(0)
+    swap = r.rmw(0, 0x40, 5, 1 << 32)
+    r.load(1, 0x40, 1 << 32)
+    r.source(late, first)
+    r.source(swap, None)
+    if r.values_alone() != ('{"cores":[[{"a":0,"k":"S","w":5},{"k":"F"},{"a":0,"k":"R","r":5,"s":null,"w":1}],'
+                            '[{"a":0,"k":"C","r":5,"s":0},{"a":0,"k":"L","r":1}]],"init":[5],"version":3}\n'):
+        yield r.values_alone()
+    r = tsotest.Recorder(1)
+    r.load(0, 0x40, 7)
+    if not refused(r.values_alone, "operation 0 of core 0 read 7 from 0x40, which nobody wrote there", True):
+        yield "a stray value has a text"
+    r = tsotest.Recorder(1)
+    first = r.store(0, 0x40, 1)
+    r.source(r.load(0, 0x40, 0), first)
+    if not refused(r.values_alone, "and its source wrote 1", True):
+        yield "a source that wrote another value has a text"
+    r = tsotest.Recorder(1)
+    if not refused(r.values_alone, "no event was recorded", False):
+        yield "an empty recorder has values"
+
+
 def next_runs():
     """The next run begins with the last write of each address and with the initial value of one that nobody wrote; after a fault it does
     not begin."""
@@ -393,7 +434,8 @@ def main():
     files = [it.relative_to(DATA) for folder in ("classics", "limits", "recordings") for it in sorted(DATA.glob(f"{folder}/*.json"))]
     with ThreadPoolExecutor(4) as pool:
         failed = [it for part in pool.map(lambda file: [*differs(program, file)], files) for it in part]
-    failed += [*surveyed(program), *layouts(), *coded(), *listed(program), *recorders(), *next_runs(), *empty(), *labelled(), *counted(), *values(), *merged(), *names()]
+    failed += [*surveyed(program), *layouts(), *coded(), *listed(program), *recorders(), *values_alone(), *next_runs()]
+    failed += [*empty(), *labelled(), *counted(), *values(), *merged(), *names()]
     if tsotest.version() + "\n" != commanded(program, ["--version"])[1]:
         failed.append(f"the version is {tsotest.version()}")
     print(*failed, sep="\n", end="\n" * bool(failed))

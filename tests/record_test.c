@@ -86,6 +86,59 @@ static void texts(void)
     gives(tsotest_program_text, "core\nst a0 5\nld a0\ncore\nst a0 5\n");
 }
 
+static void values_alone(void)
+{
+    tsotest_record_begin(&r, 2);
+    tsotest_record_store(&r, 0, 0x40, 1);
+    tsotest_record_load(&r, 0, 0x44, 0);
+    tsotest_record_store(&r, 1, 0x44, 1);
+    tsotest_record_load(&r, 1, 0x40, 0);
+    gives(tsotest_values_text, "{\"cores\":[[{\"a\":0,\"k\":\"S\",\"w\":1},{\"a\":1,\"k\":\"L\",\"r\":0}],"
+                               "[{\"a\":1,\"k\":\"S\",\"w\":1},{\"a\":0,\"k\":\"L\",\"r\":0}]],\"init\":[0,0],\"version\":3}\n");
+    /* Commits change nothing of it, and the recording has all sources. */
+    tsotest_record_commit(&r, 0, 0x40, 1);
+    gives(tsotest_values_text, "{\"cores\":[[{\"a\":0,\"k\":\"S\",\"w\":1},{\"a\":1,\"k\":\"L\",\"r\":0}],"
+                               "[{\"a\":1,\"k\":\"S\",\"w\":1},{\"a\":0,\"k\":\"L\",\"r\":0}]],\"init\":[0,0],\"version\":3}\n");
+    tsotest_record_commit(&r, 1, 0x44, 1);
+    gives(tsotest_recording_text, "{\"cores\":[[{\"a\":0,\"k\":\"S\",\"w\":1},{\"a\":1,\"k\":\"L\",\"r\":0,\"s\":null}],"
+                                  "[{\"a\":1,\"k\":\"S\",\"w\":1},{\"a\":0,\"k\":\"L\",\"r\":0,\"s\":null}]],\"version\":1,"
+                                  "\"writes\":[[0],[2]]}\n");
+    /* Values that repeat; sources where they were given; initial values; a value above 2^32 - 1. */
+    tsotest_record_begin(&r, 2);
+    tsotest_record_initial(&r, 0x40, 5);
+    int first = tsotest_record_store(&r, 0, 0x40, 5), late = tsotest_record_failed_cas(&r, 1, 0x40, 5);
+    tsotest_record_fence(&r, 0);
+    int swap = tsotest_record_rmw(&r, 0, 0x40, 5, 1ull << 32);
+    tsotest_record_load(&r, 1, 0x40, 1ull << 32);
+    tsotest_record_source(&r, late, first);
+    tsotest_record_source(&r, swap, TSOTEST_INITIAL);
+    gives(tsotest_values_text, "{\"cores\":[[{\"a\":0,\"k\":\"S\",\"w\":5},{\"k\":\"F\"},{\"a\":0,\"k\":\"R\",\"r\":5,\"s\":null,\"w\":1}],"
+                               "[{\"a\":0,\"k\":\"C\",\"r\":5,\"s\":0},{\"a\":0,\"k\":\"L\",\"r\":1}]],\"init\":[5],\"version\":3}\n");
+    assert(tsotest_recording_text(&r, out, sizeof out, &len) == TSOTEST_LOST_STORE);
+    assert(tsotest_values_text(&r, out, sizeof out, &len) == TSOTEST_LOST_STORE && len == 0);
+    /* What nobody wrote, and a source that wrote another value. */
+    tsotest_record_begin(&r, 1);
+    tsotest_record_load(&r, 0, 0x40, 7);
+    assert(tsotest_values_text(&r, out, sizeof out, &len) == TSOTEST_STRAY_VALUE && len == 0);
+    assert(strstr(r.message, "operation 0 of core 0 read 7 from 0x40, which nobody wrote there"));
+    tsotest_record_begin(&r, 1);
+    first = tsotest_record_store(&r, 0, 0x40, 1);
+    tsotest_record_source(&r, tsotest_record_load(&r, 0, 0x40, 0), first);
+    assert(tsotest_values_text(&r, out, sizeof out, &len) == TSOTEST_STRAY_VALUE);
+    assert(strstr(r.message, "and its source wrote 1"));
+    /* No event. */
+    tsotest_record_begin(&r, 1);
+    assert(tsotest_values_text(&r, out, sizeof out, &len) == TSOTEST_EMPTY);
+    tsotest_record_begin(&r, 1);
+    tsotest_record_allow_empty(&r);
+    gives(tsotest_values_text, "{\"cores\":[[]],\"init\":[],\"version\":3}\n");
+    FILE *file = tmpfile();
+    assert(file && tsotest_write_values(&r, file) == TSOTEST_NO_FAULT);
+    rewind(file);
+    assert(fread(out, 1, sizeof out, file) == len && !memcmp(out, "{\"cores\":[[]],\"init\":[],\"version\":3}\n", len));
+    fclose(file);
+}
+
 /* A failed compare-and-swap expects one more than it read, modulo 2^32. */
 static void expected_value(void)
 {
@@ -614,6 +667,7 @@ static void refusals(void)
 int main(void)
 {
     texts();
+    values_alone();
     expected_value();
     names();
     late_value();
