@@ -40,8 +40,8 @@ abbrev pub HasKnownValue : Values → ℕ → Type 0
 HasKnownValue v e = (a : ℕ) (s : Option ℕ) → Reads (events_alone v) e a → known_source v e ≡ Some s
     → IsValueOf (events_alone v) a s (value_read (event_at (events_alone v) e))
 
--- nothing is refused
-pub record AreLawful (v : Values) : Type 0 where
+-- they break no rule
+pub record ObeyRules (v : Values) : Type 0 where
   pub within : AreWithinLimits v
   pub sources : (e : ℕ) → HasKnownSource v e
   pub values : (e : ℕ) → HasKnownValue v e

@@ -10,7 +10,7 @@ impl Values {
     ghost use Rattle.recording.specs.Execution.{event_count, Reads, Writes};
     ghost use Rattle.recording.specs.Refusals.{IsLeastWithout};
     ghost use Rattle.values.specs.Refused.{events_alone, AreWithinLimits, HasKnownSource, HasKnownValue};
-    ghost use Rattle.values.specs.Refused.{AreLawful, AreRefused};
+    ghost use Rattle.values.specs.Refused.{ObeyRules, AreRefused};
 
     /// Whether each address that is used has an initial value.
     fn has_all_initial_values(&self) -> bool
@@ -77,7 +77,7 @@ impl Values {
 
     fn first_refusal(&self) -> Option<RecError>
         requires { event_count (events_alone self.now) ≤ MAX_EVENTS }
-        ensures { MatchOption result (AreLawful self.now) (λ e. AreRefused self.now e) }
+        ensures { MatchOption result (ObeyRules self.now) (λ e. AreRefused self.now e) }
     {
         if !self.is_within_limits() {
             return Some(RecError::Limits);
@@ -91,11 +91,11 @@ impl Values {
         None
     }
 
-    /// Why no recording can have these values and sources: the first refusal of the limits, of the least event that can't
-    /// have the source that is known of it, of the least event that read another value than that source gives. None
-    /// where no rule is broken.
+    /// Why no recording can have these values and sources: the first refusal of the limits, of the least event that
+    /// can't have the source that is known of it, of the least event that read another value than that source gives.
+    /// None where no rule is broken.
     pub fn refusal(&self) -> Option<RecError>
-        ensures { MatchOption result (AreLawful self.now) (λ e. AreRefused self.now e) }
+        ensures { MatchOption result (ObeyRules self.now) (λ e. AreRefused self.now e) }
     {
         let Some(_) = self.count() else {
             return Some(RecError::Limits);

@@ -13,7 +13,7 @@ use Rattle.recorder.specs.Clipped.{clip_event}
 use Rattle.recorder.specs.Text.{IsReadAs}
 use Rattle.recorder.proofs.Somes.{some_mapped}
 use Rattle.values.specs.Values.{Values, unsourced}
-use Rattle.values.specs.Refused.{AreLawful, AreRefused}
+use Rattle.values.specs.Refused.{ObeyRules, AreRefused}
 use Rattle.values.proofs.Unsourced.{stripped_twice}
 use Rattle.values_text.specs.declared.shape.Parsed.{Parsed}
 use Rattle.values_text.specs.Reading.{KnownEvent, ParsedValues, values_shape, told_values, DecodesValues}
@@ -102,7 +102,7 @@ refused_held bytes p v e held version told is =
 
 -- and the values
 pub read_held : (bytes : List ℕ) (p : Parsed) (v : Values) → IsHeldOf bytes p → p.version ≡ 3
-    → v ≡ told_values (parsed_values p) → AreLawful v → IsValuesReading bytes (Ok v)
+    → v ≡ told_values (parsed_values p) → ObeyRules v → IsValuesReading bytes (Ok v)
 read_held bytes p v held version told is =
     let from = told_from bytes p v held version told in
     let same : v ≡ from.1 = from.4 ∙ values_from from.1 from.5 (rw from.4 at is) in

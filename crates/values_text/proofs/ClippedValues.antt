@@ -19,7 +19,7 @@ use Rattle.recorder.proofs.Clipped.{events_fit, addresses_fit, small, unclipped,
 use Rattle.recorder.proofs.Clipped.{reads_clipped, writes_clipped}
 use Rattle.recorder.proofs.Somes.{some_mapped}
 use Rattle.values.specs.Values.{Values, unsourced, known_source}
-use Rattle.values.specs.Refused.{events_alone, AreWithinLimits, IsPossible, HasKnownSource, HasKnownValue, AreLawful}
+use Rattle.values.specs.Refused.{events_alone, AreWithinLimits, IsPossible, HasKnownSource, HasKnownValue, ObeyRules}
 use Rattle.values.specs.Refused.{AreRefused}
 use Rattle.values_text.specs.Clipped.{clip_source, clipped_values}
 
@@ -280,7 +280,7 @@ known_fixed None fixed = refl
 known_fixed (Some s) fixed = ap Some (fixed s refl)
 
 -- values whose clipped form is lawful were not clipped
-pub values_from : (v : Values) → map (map unsourced) v.cores ≡ v.cores → AreLawful (clipped_values v)
+pub values_from : (v : Values) → map (map unsourced) v.cores ≡ v.cores → ObeyRules (clipped_values v)
     → clipped_values v ≡ v
 values_from v alone is =
     let within : AreWithinLimits v = within_from v is.within in

@@ -9,7 +9,7 @@ use Rattle.recording.specs.Event.{read_address}
 use Rattle.recording.specs.Execution.{placed_from, event_count, event_at}
 use Rattle.recording.specs.PlacedLaws.{placed_here, placed_after, count_from}
 use Rattle.values.specs.Values.{Values, unsourced}
-use Rattle.values.specs.Refused.{AreLawful}
+use Rattle.values.specs.Refused.{ObeyRules}
 use Rattle.values_text.specs.Reading.{finals_of, DecodesValues}
 use Rattle.values_text.specs.Text.{known_core, known_cores, values_data, written_finals, AreFittingNumbers}
 use Rattle.values_text.proofs.WrittenAgain.{resourced, shape_again}
@@ -112,7 +112,7 @@ finals_told false fs initial is count = rw is (ap (λ (n : ℕ). replicate n Non
 
 -- ---- the values
 
-pub values_told : (v : Values) → AreFittingNumbers v → map (map unsourced) v.cores ≡ v.cores → AreLawful v
+pub values_told : (v : Values) → AreFittingNumbers v → map (map unsourced) v.cores ≡ v.cores → ObeyRules v
     → DecodesValues (values_data v) v
 unfolding event_count event_at
 values_told v fits alone lawful = record {

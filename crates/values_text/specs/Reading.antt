@@ -12,7 +12,7 @@ use Rattle.recording.specs.Event.{source}
 use Rattle.recorder.specs.Reading.{natural, value_in, source_in, list_in, at_key, count_members, read_of}
 use Rattle.recorder.specs.Text.{IsReadAs}
 use Rattle.values.specs.Values.{Values, unsourced}
-use Rattle.values.specs.Refused.{AreLawful, AreRefused}
+use Rattle.values.specs.Refused.{ObeyRules, AreRefused}
 
 -- an event, and the source that is known of it, if one is
 abbrev pub KnownEvent : Type 0
@@ -112,7 +112,7 @@ pub record DecodesValues (d : Data) (v : Values) : Type 0 where
 
 -- what a reader of these bytes may answer: the first refusal in this order; memory alone is left open
 abbrev pub IsValuesReading : List ℕ → Result Values RecError → Type 0
-IsValuesReading bytes (Ok v) = (d : Data) × IsReadAs bytes d × DecodesValues d v × AreLawful v
+IsValuesReading bytes (Ok v) = (d : Data) × IsReadAs bytes d × DecodesValues d v × ObeyRules v
 IsValuesReading bytes (Err NotJson) = (d : Data) → IsReadAs bytes d → ⊥
 IsValuesReading bytes (Err Shape) = (d : Data) × IsReadAs bytes d × (values_shape d ≡ None)
 IsValuesReading bytes (Err Version) = (d : Data) × IsReadAs bytes d

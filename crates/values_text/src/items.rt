@@ -6,6 +6,7 @@ ghost use Rattle.serde_json.specs.Find.{as_object};
 ghost use Rattle.recorder.specs.Reading.{at_key, count_members, value_in};
 ghost use Rattle.recorder.specs.Clipped.{clipped_number};
 ghost use Rattle.recorder.specs.Pulled.{clipped_source};
+ghost use Rattle.values_text.specs.Reading.{with_source, without_source};
 ghost use Rattle.values_text.specs.Clipped.{clipped_known};
 
 use crate::members::event_members;
@@ -161,9 +162,65 @@ struct Fields {
     w: Option<u32>,
 }
 
+/// An event whose source is known.
+fn with_source(event: Event) -> KnownEvent
+    ensures { result ≡ with_source event }
+{
+    (event, Some(event.source()))
+}
+
+/// An event of which no source is known.
+fn without_source(event: Event) -> KnownEvent
+    ensures { result ≡ without_source event }
+{
+    (event, None)
+}
+
 impl Fields {
     ghost use Rattle.std.specs.Prelude.{◌≡◌};
-    ghost use Rattle.values_text.specs.Reading.{known_event};
+    ghost use Rattle.recording.specs.declared.event.Event.TheVariants.{L, C};
+    ghost use Rattle.recorder.specs.Reading.{read_of};
+    ghost use Rattle.values_text.specs.Reading.{known_event, store_of, rmw_of};
+
+    fn load(&self, source: Option<Option<EventId>>) -> Option<Event>
+        ensures { result ≡ read_of L self.now.a self.now.r source }
+    {
+        Some(Event::L {
+            a: self.a?,
+            r: self.r?,
+            s: source?,
+        })
+    }
+
+    fn store(&self) -> Option<Event>
+        ensures { result ≡ store_of self.now.a self.now.w }
+    {
+        Some(Event::S {
+            a: self.a?,
+            w: self.w?,
+        })
+    }
+
+    fn rmw(&self, source: Option<Option<EventId>>) -> Option<Event>
+        ensures { result ≡ rmw_of self.now.a self.now.r source self.now.w }
+    {
+        Some(Event::R {
+            a: self.a?,
+            r: self.r?,
+            s: source?,
+            w: self.w?,
+        })
+    }
+
+    fn failed_cas(&self, source: Option<Option<EventId>>) -> Option<Event>
+        ensures { result ≡ read_of C self.now.a self.now.r source }
+    {
+        Some(Event::C {
+            a: self.a?,
+            r: self.r?,
+            s: source?,
+        })
+    }
 
     /// The event of a kind with this many keys.
     #[tactic(auto, unfolding(crate::specs::Reading::known_event))]
@@ -171,63 +228,13 @@ impl Fields {
         ensures { result ≡ known_event kind.now keys self.now.a self.now.r self.now.s self.now.w }
     {
         match (kind, keys) {
-            ("L", 4) => Some((
-                Event::L {
-                    a: self.a?,
-                    r: self.r?,
-                    s: self.s?,
-                },
-                self.s,
-            )),
-            ("L", 3) => Some((
-                Event::L {
-                    a: self.a?,
-                    r: self.r?,
-                    s: None,
-                },
-                None,
-            )),
-            ("S", 3) => Some((
-                Event::S {
-                    a: self.a?,
-                    w: self.w?,
-                },
-                None,
-            )),
-            ("R", 5) => Some((
-                Event::R {
-                    a: self.a?,
-                    r: self.r?,
-                    s: self.s?,
-                    w: self.w?,
-                },
-                self.s,
-            )),
-            ("R", 4) => Some((
-                Event::R {
-                    a: self.a?,
-                    r: self.r?,
-                    s: None,
-                    w: self.w?,
-                },
-                None,
-            )),
-            ("C", 4) => Some((
-                Event::C {
-                    a: self.a?,
-                    r: self.r?,
-                    s: self.s?,
-                },
-                self.s,
-            )),
-            ("C", 3) => Some((
-                Event::C {
-                    a: self.a?,
-                    r: self.r?,
-                    s: None,
-                },
-                None,
-            )),
+            ("L", 4) => Some(with_source(self.load(self.s)?)),
+            ("L", 3) => Some(without_source(self.load(Some(None))?)),
+            ("S", 3) => Some(without_source(self.store()?)),
+            ("R", 5) => Some(with_source(self.rmw(self.s)?)),
+            ("R", 4) => Some(without_source(self.rmw(Some(None))?)),
+            ("C", 4) => Some(with_source(self.failed_cas(self.s)?)),
+            ("C", 3) => Some(without_source(self.failed_cas(Some(None))?)),
             ("F", 1) => Some((Event::F, None)),
             _ => None,
         }

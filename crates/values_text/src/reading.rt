@@ -91,8 +91,8 @@ fn told_values(alloc: Global, contents: Parsed) -> Result<Values, OutOfMemory>
     Values::new(alloc, events.as_slice(), sources, init, final_values)
 }
 
-/// The values of these contents, or the first refusal of the version, and what `Values::refusal` refuses, or that memory
-/// ran out.
+/// The values of these contents, or the first refusal: of the version, and what `Values::refusal` refuses. Else it fails
+/// only if out of memory.
 fn values_of(alloc: Global, contents: Parsed) -> Result<Values, RecError>
     ensures { (bytes : List ℕ) → IsHeldOf bytes contents → IsValuesReading bytes result }
 {
@@ -138,8 +138,8 @@ fn contents_of(alloc: Global, bytes: &[u8]) -> Result<Parsed, RecError>
     Ok(found)
 }
 
-/// The values alone that the bytes give, a text of version 3, or the first refusal: of the JSON, its shape, the version,
-/// and what `Values::refusal` refuses, or that memory ran out.
+/// The values that the bytes give, a text of version 3, or the first refusal: of the JSON, its shape, the version, and
+/// what `Values::refusal` refuses. Else it fails only if out of memory.
 pub fn read_values(alloc: Global, bytes: &[u8]) -> Result<Values, RecError>
     ensures { IsValuesReading bytes.now result }
 {

@@ -4,7 +4,7 @@ ghost use Rattle.std.specs.Prelude.{◌≡◌, Bool, IfOk, Ok, is_some, map};
 ghost use Rattle.std.specs.List.{list_any, AllByRecursion};
 ghost use Rattle.serde_json.specs.View.{view};
 ghost use Rattle.recorder.specs.Text.{list_data, IsReadAs};
-ghost use Rattle.values.specs.Refused.{AreLawful};
+ghost use Rattle.values.specs.Refused.{ObeyRules};
 ghost use Rattle.values_text.specs.Reading.{IsValuesReading};
 ghost use Rattle.values_text.specs.Text.{values_data, text_of_values, AreFittingNumbers};
 
@@ -75,7 +75,7 @@ fn value_of(alloc: Global, values: &Values) -> Result<Value, AllocError>
 pub fn write_values(alloc: Global, values: &Values) -> Result<Vec<u8>, OutOfMemory>
     ensures text { IfOk result (λ v. v.items ≡ text_of_values values.now) }
     ensures reads_back { IfOk result (λ v. IsReadAs v.items (values_data values.now)) }
-    ensures again { IfOk result (λ v. AreLawful values.now → IsValuesReading v.items (Ok values.now)) }
+    ensures again { IfOk result (λ v. ObeyRules values.now → IsValuesReading v.items (Ok values.now)) }
 {
     values.sound();
     let value = value_of(alloc, values)?;
