@@ -1,5 +1,5 @@
 -- What is answered of a clipped execution is the answer of the execution.
-use Rattle.std.proofs.Common.{◌≡◌, ◌↔◌, ℕ, Some, option_map, List, refl, sym, ap, subst, ◌∙◌}
+use Rattle.std.proofs.Common.{◌≡◌, ◌↔◌, inr, ℕ, Some, option_map, List, refl, sym, ap, subst, ◌∙◌}
 use Rattle.std.proofs.Common.{Result, Ok, Err, IsOk, IfOk, IfErr}
 use Rattle.serde_json.specs.Data.{Data}
 use Rattle.recording.specs.declared.fault.RecError.{RecError}
@@ -67,4 +67,4 @@ pub version_from : (bytes : List ℕ) (d : Data) (q : ParsedModel) → IsReadAs 
     → IsReadingResult bytes (Err Version)
 version_from bytes d q reads is wrong =
     let from = some_mapped clipped_shape (shape_in d) q (sym is) in
-    (d, reads, (from.0, from.1, λ right. wrong (subst IsVersioned from.2 (versioned_to from.0 right))))
+    (d, reads, inr (from.0, from.1, λ right. wrong (subst IsVersioned from.2 (versioned_to from.0 right))))

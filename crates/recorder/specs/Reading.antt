@@ -1,6 +1,6 @@
 -- What the bytes of a recording give, from what `serde_json` reads of them: an execution, or the
 -- first refusal.
-use Rattle.std.specs.Prelude.{◌≡◌, ◌^◌, ◌==◌, ◌&&◌, ℕ, suc, List, [], ◌∷◌, Option, None, Some, is_some}
+use Rattle.std.specs.Prelude.{◌≡◌, ◌⊎◌, ◌^◌, ◌==◌, ◌&&◌, ℕ, suc, List, [], ◌∷◌, Option, None, Some, is_some}
 use Rattle.std.specs.Prelude.{option_map, option_and_then, Result, Ok, Err, codes, nat_lt, bytes_eq}
 use Rattle.std.specs.Prelude.{if◌then◌else◌, ⊤}
 use Rattle.serde_json.specs.Data.{Data, Items, no_items, item, Members, no_members, member}
@@ -99,12 +99,19 @@ pub record Decodes (d : Data) (x : Execution) : Type 0 where
   pub versioned : IsVersioned contents
   pub same : execution_of contents ≡ x
 
+-- values alone: a text of version 3, without write lists
+abbrev pub IsValuesAlone : Data → Type 0
+IsValuesAlone d = (at_key natural (codes "version") d ≡ Some 3) × (get (codes "writes") d ≡ None)
+
+-- the version is of values alone, or not the one of the contents
+abbrev pub HasOtherVersion : Data → Type 0
+HasOtherVersion d = IsValuesAlone d ⊎ ((c : ParsedModel) × (shape_in d ≡ Some c) × (¬ IsVersioned c))
+
 -- what a reader of these bytes may answer: the first refusal in this order; memory alone is left open
 abbrev pub IsReadingResult : List ℕ → Result Execution RecError → Type 0
 IsReadingResult bytes (Ok x) = (d : Data) × IsReadAs bytes d × Decodes d x × IsRecording x
 IsReadingResult bytes (Err NotJson) = (d : Data) → IsReadAs bytes d → ⊥
-IsReadingResult bytes (Err Shape) = (d : Data) × IsReadAs bytes d × (shape_in d ≡ None)
-IsReadingResult bytes (Err Version) = (d : Data) × IsReadAs bytes d
-    × ((c : ParsedModel) × (shape_in d ≡ Some c) × (¬ IsVersioned c))
+IsReadingResult bytes (Err Shape) = (d : Data) × IsReadAs bytes d × (shape_in d ≡ None) × (¬ IsValuesAlone d)
+IsReadingResult bytes (Err Version) = (d : Data) × IsReadAs bytes d × HasOtherVersion d
 IsReadingResult bytes (Err OutOfMemory) = ⊤
 IsReadingResult bytes (Err e) = (d : Data) × IsReadAs bytes d × ((x : Execution) × Decodes d x × IsRefusal x e)

@@ -6,6 +6,7 @@ ghost use Rattle.recorder.specs.ParsedModel.{initial_values, IsVersioned};
 ghost use Rattle.recorder.specs.ParsedModel.{model_of};
 ghost use Rattle.recorder.specs.ReadMembers.{IsParsedFrom};
 ghost use Rattle.recorder.specs.Reading.{each, natural, list_in, at_key, shape_in, IsReadingResult};
+ghost use Rattle.recorder.specs.Reading.{IsValuesAlone};
 ghost use Rattle.recorder.specs.Text.{IsReadAs};
 ghost use Rattle.recorder.specs.Clipped.{clipped_shape};
 
@@ -136,6 +137,19 @@ fn initial_values(
     }
 }
 
+/// Whether it is of version 3, without write lists.
+fn is_values_alone(value: &Value) -> bool
+    ensures { IsTrue result ↔ IsValuesAlone (view value.now) }
+{
+    if value.get("writes").is_some() {
+        return false;
+    }
+    match natural_at(value, "version") {
+        Some(version) => version == 3,
+        None => false,
+    }
+}
+
 /// The whole value of a text, or that it is no JSON, or that memory ran out.
 fn tree_of(alloc: Global, bytes: &[u8]) -> Result<Value, RecError>
     ensures tree { IfOk result (λ v. IsReadAs bytes.now (view v)) }
@@ -161,10 +175,13 @@ fn parsed_in_tree(alloc: Global, bytes: &[u8]) -> Result<Parsed, RecError>
     let Ok(found) = shape_in(alloc, &value) else {
         return Err(RecError::OutOfMemory);
     };
-    let Some(found) = found else {
-        return Err(RecError::Shape);
-    };
-    Ok(found)
+    if let Some(found) = found {
+        return Ok(found);
+    }
+    if is_values_alone(&value) {
+        return Err(RecError::Version);
+    }
+    Err(RecError::Shape)
 }
 
 /// The recording of these contents, or the first refusal of the version, and what `Recording::from_parts`

@@ -1,9 +1,11 @@
 -- Lemmas on what is found: one thing in each line, so bytes have one survey.
 use Rattle.std.proofs.Common.{◌≡◌, ◌≢◌, ◌++◌, ℕ, List, [], ◌∷◌, Option, None, Some, Result, Ok, Err, arith, refl, sym, ap}
-use Rattle.std.proofs.Common.{◌∙◌, subst, inl, inr}
+use Rattle.std.proofs.Common.{◌∙◌, subst, inl, inr, Bool, true, false, if◌then◌else◌, option_map, option_and_then, codes}
 use Rattle.std.proofs.lemmas.Bool.{cases_lt}
 use Rattle.std.proofs.lemmas.Option.{none-some}
 use Rattle.serde_json.specs.Data.{Data}
+use Rattle.serde_json.specs.Find.{as_object}
+use Rattle.recording.specs.declared.event.Event.{Event}
 use Rattle.recording.specs.Execution.{Execution}
 use Rattle.recording.specs.Recording.{IsRecording}
 use Rattle.recording.specs.Tso.{Gives, IsValueOf}
@@ -14,7 +16,8 @@ use Rattle.recording.specs.Refusals.{HasSource, HasValue, HasWriteList, IsLeastW
 use Rattle.recording.specs.RefusalLaws.{source_of_recording}
 use Rattle.recorder.specs.ParsedModel.{ParsedModel, execution_of, IsVersioned}
 use Rattle.recorder.specs.Text.{IsReadAs}
-use Rattle.recorder.specs.Reading.{shape_in, Decodes, IsReadingResult}
+use Rattle.recorder.specs.Reading.{natural, value_in, event_in, list_in, at_key, count_members, parsed_parts, contents_of}
+use Rattle.recorder.specs.Reading.{shape_in, Decodes, IsValuesAlone, HasOtherVersion, IsReadingResult}
 use Rattle.verdicts.specs.declared.verdict.Verdict.{Verdict}
 use Rattle.verdicts.specs.Judgement.{IsVerdict}
 use Rattle.ledger.specs.declared.finding.Finding.{Finding}
@@ -113,9 +116,9 @@ one_outcome x (Some r) (Some s) a b = ap (λ (t : RecError). Some t) (one_refusa
 -- how far a reading came
 data Stage (bytes : List ℕ) (r : Result Execution RecError) : Type 0 where
   unread : ((d : Data) → IsReadAs bytes d → ⊥) → r ≡ Err NotJson → Stage bytes r
-  shapeless : (d : Data) → IsReadAs bytes d → shape_in d ≡ None → r ≡ Err Shape → Stage bytes r
-  unversioned : (d : Data) → IsReadAs bytes d → (c : ParsedModel) → shape_in d ≡ Some c → (IsVersioned c → ⊥)
-      → r ≡ Err Version → Stage bytes r
+  shapeless : (d : Data) → IsReadAs bytes d → shape_in d ≡ None → (IsValuesAlone d → ⊥) → r ≡ Err Shape
+      → Stage bytes r
+  unversioned : (d : Data) → IsReadAs bytes d → HasOtherVersion d → r ≡ Err Version → Stage bytes r
   told_it : (d : Data) → IsReadAs bytes d → (x : Execution) → Decodes d x → (o : Option RecError)
       → IsOutcome x o → r ≡ answer x o → Stage bytes r
 
@@ -125,8 +128,8 @@ staged : (bytes : List ℕ) (r : Result Execution RecError) → IsReadingResult 
 unfolding IsOutcome answer
 staged bytes (Ok x) a known = told_it a.0 a.1 x a.2 None a.3 refl
 staged bytes (Err NotJson) a known = unread a refl
-staged bytes (Err Shape) a known = shapeless a.0 a.1 a.2 refl
-staged bytes (Err Version) a known = unversioned a.0 a.1 a.2.0 a.2.1 a.2.2 refl
+staged bytes (Err Shape) a known = shapeless a.0 a.1 a.2 a.3 refl
+staged bytes (Err Version) a known = unversioned a.0 a.1 a.2 refl
 staged bytes (Err Limits) a known = told_it a.0 a.1 a.2.0 a.2.1 (Some Limits) a.2.2 refl
 staged bytes (Err (Source e)) a known = told_it a.0 a.1 a.2.0 a.2.1 (Some (Source e)) a.2.2 refl
 staged bytes (Err (Value e)) a known = told_it a.0 a.1 a.2.0 a.2.1 (Some (Value e)) a.2.2 refl
@@ -161,27 +164,69 @@ versioned_and_not : (bytes : List ℕ) (d e : Data) (c : ParsedModel) (x : Execu
 versioned_and_not bytes d e c x a b u un tells = un (subst (λ (f : ParsedModel). IsVersioned f)
     (one_contents bytes e d tells.contents c b a tells.shape u) tells.versioned)
 
+-- the same either way
+same_either : {A : Type 0} (b : Bool) (x : A) → (if b then x else x) ≡ x
+same_either true x = refl
+same_either false x = refl
+
+-- contents without write lists are none
+no_lists : (v : Option ℕ) (cs : Option (List (List Event))) (values : Option (List ℕ))
+    → parsed_parts v cs None values ≡ None
+no_lists None cs values = refl
+no_lists (Some v) None values = refl
+no_lists (Some v) (Some cs) values = refl
+
+-- with initial values or without
+no_contents : (n : ℕ) (v : Option ℕ) (cs : Option (List (List Event))) (init : Option (List ℕ))
+    → contents_of n v cs None init ≡ None
+unfolding contents_of
+no_contents n v cs None = simp (no_lists v cs None, same_either) refl
+no_contents n v cs (Some values) = simp (no_lists v cs (Some values), same_either) refl
+
+-- values alone have not the shape of a recording
+alone_shapeless : (d : Data) → IsValuesAlone d → shape_in d ≡ None
+unfolding shape_in
+alone_shapeless d alone = rw alone.1 (go (option_map count_members (as_object d)))
+  where
+    go : (o : Option ℕ) → option_and_then (λ n. contents_of n (at_key natural (codes "version") d)
+        (at_key (list_in (list_in event_in)) (codes "cores") d) None (at_key (list_in value_in) (codes "init") d)) o
+        ≡ None
+    go None = refl
+    go (Some n) = no_contents n _ _ _
+
+-- another version and no shape
+shapeless_and_other : (bytes : List ℕ) (d e : Data) → IsReadAs bytes d → IsReadAs bytes e → shape_in d ≡ None
+    → (IsValuesAlone d → ⊥) → HasOtherVersion e → ⊥
+shapeless_and_other bytes d e a b none absent (inl alone) =
+    absent (subst (λ (f : Data). IsValuesAlone f) (one_value bytes e d b a) alone)
+shapeless_and_other bytes d e a b none absent (inr (c, shape, un)) = none_and_some bytes d e c a b none shape
+
+-- another version and a right one
+other_and_told : (bytes : List ℕ) (d e : Data) (x : Execution) → IsReadAs bytes d → IsReadAs bytes e
+    → HasOtherVersion d → Decodes e x → ⊥
+other_and_told bytes d e x a b (inl alone) tells =
+    none_and_some bytes d e tells.contents a b (alone_shapeless d alone) tells.shape
+other_and_told bytes d e x a b (inr (c, shape, un)) tells = versioned_and_not bytes d e c x a b shape un tells
+
 -- two readings came equally far
 same_stage : (bytes : List ℕ) (r s : Result Execution RecError) → Stage bytes r → Stage bytes s → r ≡ s
 same_stage bytes r s (unread n e) (unread m f) = e ∙ sym f
-same_stage bytes r s (unread n e) (shapeless d a u f) = absurd (n d a)
-same_stage bytes r s (unread n e) (unversioned d a c u v f) = absurd (n d a)
+same_stage bytes r s (unread n e) (shapeless d a u v f) = absurd (n d a)
+same_stage bytes r s (unread n e) (unversioned d a u f) = absurd (n d a)
 same_stage bytes r s (unread n e) (told_it d a x t o i f) = absurd (n d a)
-same_stage bytes r s (shapeless d a u e) (unread n f) = absurd (n d a)
-same_stage bytes r s (shapeless d a u e) (shapeless k b v f) = e ∙ sym f
-same_stage bytes r s (shapeless d a u e) (unversioned k b c v w f) = absurd (none_and_some bytes d k c a b u v)
-same_stage bytes r s (shapeless d a u e) (told_it k b x t o i f) =
+same_stage bytes r s (shapeless d a u v e) (unread n f) = absurd (n d a)
+same_stage bytes r s (shapeless d a u v e) (shapeless k b w z f) = e ∙ sym f
+same_stage bytes r s (shapeless d a u v e) (unversioned k b w f) = absurd (shapeless_and_other bytes d k a b u v w)
+same_stage bytes r s (shapeless d a u v e) (told_it k b x t o i f) =
     absurd (none_and_some bytes d k t.contents a b u t.shape)
-same_stage bytes r s (unversioned d a c u v e) (unread n f) = absurd (n d a)
-same_stage bytes r s (unversioned d a c u v e) (shapeless k b w f) = absurd (none_and_some bytes k d c b a w u)
-same_stage bytes r s (unversioned d a c u v e) (unversioned k b g w z f) = e ∙ sym f
-same_stage bytes r s (unversioned d a c u v e) (told_it k b x t o i f) =
-    absurd (versioned_and_not bytes d k c x a b u v t)
+same_stage bytes r s (unversioned d a u e) (unread n f) = absurd (n d a)
+same_stage bytes r s (unversioned d a u e) (shapeless k b w z f) = absurd (shapeless_and_other bytes k d b a w z u)
+same_stage bytes r s (unversioned d a u e) (unversioned k b w f) = e ∙ sym f
+same_stage bytes r s (unversioned d a u e) (told_it k b x t o i f) = absurd (other_and_told bytes d k x a b u t)
 same_stage bytes r s (told_it d a x t o i e) (unread n f) = absurd (n d a)
-same_stage bytes r s (told_it d a x t o i e) (shapeless k b v f) =
+same_stage bytes r s (told_it d a x t o i e) (shapeless k b v w f) =
     absurd (none_and_some bytes k d t.contents b a v t.shape)
-same_stage bytes r s (told_it d a x t o i e) (unversioned k b c v w f) =
-    absurd (versioned_and_not bytes k d c x b a v w t)
+same_stage bytes r s (told_it d a x t o i e) (unversioned k b w f) = absurd (other_and_told bytes k d x b a w t)
 same_stage bytes r s (told_it d a x t o i e) (told_it k b y z p j f) =
     let same : x ≡ y = sym t.same
     ∙ (ap execution_of (one_contents bytes d k t.contents z.contents a b t.shape z.shape) ∙ z.same) in
