@@ -1,6 +1,9 @@
-//! Tests of the judge and of what it stands on: rows of bits, forced pairs, orders, certificates, texts of verdicts.
+//! Tests of the judge and of what it stands on: rows of bits, forced pairs, orders, certificates, texts of verdicts, and
+//! texts of values alone.
 #![tactic(auto)]
 
+#[cfg(test)]
+mod alone;
 #[cfg(test)]
 mod answers;
 #[cfg(test)]
