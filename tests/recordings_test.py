@@ -143,8 +143,16 @@ def recorded(recorder, recording, order, by_value):
     return recorder
 
 
-def from_log(filter_, lines):
-    return subprocess.run([filter_], input="\n".join(lines) + "\n", capture_output=True, text=True)
+def alone(text, has_sources):
+    """The values alone of the text of a recording, with all of its sources or none."""
+    recording = json.loads(text)
+    cores = [[{key: value for key, value in it.items() if has_sources or key != "s"} for it in core] for core in recording["cores"]]
+    values = {"cores": cores, "init": recording.get("init", [0] * len(recording["writes"])), "version": 3}
+    return json.dumps(values, sort_keys=True, separators=(",", ":")) + "\n"
+
+
+def from_log(filter_, lines, *options):
+    return subprocess.run([filter_, *options], input="\n".join(lines) + "\n", capture_output=True, text=True)
 
 
 def main():
@@ -171,6 +179,13 @@ def main():
         made = from_log(filter_, log.lines)
         if made.stdout != text or python.recording() != text:
             sys.exit(f"recording {k}: {made.stderr}\nwant   {text}C      {made.stdout}Python {python.recording()}")
+        unseen = [line for line in log.lines if not line.startswith("commit")]
+        made = from_log(filter_, unseen, "--values").stdout
+        if made != alone(text, not by_value) or python.values_alone() != made:
+            sys.exit(f"recording {k}\nwant   {alone(text, not by_value)}C      {made}Python {python.values_alone()}")
+        made = from_log(filter_, [line for line in unseen if not line.startswith("source")], "--values").stdout
+        if made != alone(text, False):
+            sys.exit(f"recording {k} without sources\nwant   {alone(text, False)}C      {made}")
         if tsotest.judge(text).status == tsotest.Status.REFUSED:
             sys.exit(f"recording {k} is refused: {text}")
         if tsotest.explain(text, python.program()).status == tsotest.Status.REFUSED:
@@ -186,7 +201,7 @@ def main():
             if bad.returncode != 1 or bad.stdout or "nobody wrote" not in bad.stderr:
                 sys.exit(f"recording {k}: a stray value gives {bad}")
             stray += 1
-    print(f"{same} recordings came back to the byte from both recorders, {by_values} by values alone, {wide} with values above 2^32 - 1; {stray} stray values were reported")
+    print(f"{same} recordings came back to the byte from both recorders, {by_values} by values, {wide} with values above 2^32 - 1, and so did their values alone; {stray} stray values were reported")
 
 
 if __name__ == "__main__":

@@ -17,9 +17,10 @@
  *
  * Numbers are decimal, or hexadecimal after 0x; values are below 2^64. A line that begins with # is left out.
  *
- * Usage: from_log [--labels] [FILE..]; the lines of the files, one after another, are one log. Without a file, and for `-`, it reads
- * standard input. The recording goes to standard output, or with --labels the labels of its events, for `tsotest explain --labels`.
- * The status is 0, or 1 where there is no recording: standard error says why.
+ * Usage: from_log [--values | --labels] [FILE..]; the lines of the files, one after another, are one log. Without a file, and for `-`,
+ * it reads standard input. The recording goes to standard output; with --values the values alone, for which the log needs no commit;
+ * with --labels the labels of its events, for `tsotest explain --labels`. The status is 0, or 1 where there is none: standard error
+ * says why.
  *
  *   cc -O2 -I include examples/log/from_log.c -o from_log && ./from_log examples/log/mp.log | tsotest explain - */
 #include "tsotest_record.h"
@@ -147,15 +148,15 @@ static int read_file(struct tsotest_record *r, const char *name)
 int main(int argc, char **argv)
 {
     static struct tsotest_record r;
-    bool prints_labels = argc > 1 && !strcmp(argv[1], "--labels");
-    int first = prints_labels ? 2 : 1;
+    bool prints_values = argc > 1 && !strcmp(argv[1], "--values"), prints_labels = argc > 1 && !strcmp(argv[1], "--labels");
+    int first = prints_values || prints_labels ? 2 : 1;
     const char *input = "-", *const *names = argc > first ? (const char *const *)argv + first : &input;
     int count = argc > first ? argc - first : 1;
     tsotest_record_begin(&r, 0);
     for (int i = 0; i < count; i++)
         if (read_file(&r, names[i]))
             return 1;
-    if (prints_labels ? tsotest_write_labels(&r, stdout) : tsotest_write_recording(&r, stdout)) {
+    if ((prints_values ? tsotest_write_values : prints_labels ? tsotest_write_labels : tsotest_write_recording)(&r, stdout)) {
         fprintf(stderr, "%s\n", r.error ? r.message : "cannot write");
         return 1;
     }
