@@ -1,0 +1,23 @@
+use Rattle.std.proofs.Common.{◌≡◌, ◌<◌, ℕ, List, Some, None, length, get_or, sym, ap, ◌∙◌}
+use Rattle.std.proofs.lemmas.Option.{same_Some}
+use Rattle.recording.specs.declared.event.Event.{Event}
+use Rattle.recording.specs.Event.{value_read}
+use Rattle.completion.proofs.ForcingRules.{only_source, no_source}
+use Rattle.completion.proofs.Found.{given_inside}
+use Rattle.completion.proofs.sources.source_by_value.Goals as goal
+
+pub returns-in-None : goal.returns-in-None
+returns-in-None c = no_source c.args.values.now c.args.read c.args.address c.requires.address (λ u may.
+    let inside = given_inside c.args.values.now c.args.table.now c.args.read c.args.address u c.requires.table may in
+    let clash : None ≡ Some u = sym c.in-None.is ∙ c.in-Ok.ensures u inside may in
+    absurd cc)
+
+pub returns-else-value_read-value_at : goal.returns-else-value_read-value_at
+returns-else-value_read-value_at c =
+    only_source c.args.values.now c.args.read c.args.address c.in-Some.write c.requires.address
+    (λ same. c.if-value_read-value_at.false (c.value_read.ensures
+    ∙ (ap (λ (e : Event). value_read e) c.event_at.ensures ∙ (same
+    ∙ sym (c.value_at.ensures ∙ ap (λ (l : List ℕ). get_or l c.args.address 0) c.init.ensures)))))
+    (λ u may.
+    let inside = given_inside c.args.values.now c.args.table.now c.args.read c.args.address u c.requires.table may in
+    same_Some u c.in-Some.write (sym (c.in-Ok.ensures u inside may) ∙ c.in-Some.is))
