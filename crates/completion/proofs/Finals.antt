@@ -1,5 +1,5 @@
 -- The values that addresses end with.
-use Rattle.std.proofs.Common.{◌≡◌, ◌≤◌, ◌<◌, ◌-◌, ◌==◌, inl, inr, ℕ, zero, suc, false, Option, Some, None, List, [], ◌∷◌, length, get_or, slice_index, slice_get, arith, refl}
+use Rattle.std.proofs.Common.{◌≡◌, ◌≤◌, ◌<◌, ◌-◌, ◌==◌, inl, inr, ℕ, zero, suc, false, Option, Some, None, List, [], ◌∷◌, length, get_or, slice_get, arith, refl}
 use Rattle.std.proofs.Common.{sym, ap, ◌∙◌}
 use Rattle.std.proofs.lemmas.Bool.{cases_lt, cases_eq}
 use Rattle.std.proofs.lemmas.List.{get_or_past}

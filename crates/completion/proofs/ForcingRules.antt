@@ -1,15 +1,15 @@
 -- The rules by which values force pairs of events.
-use Rattle.std.proofs.Common.{◌≡◌, ◌≢◌, ◌<◌, ◌≤◌, ◌+◌, ◌&&◌, ◌⊎◌, inl, inr, ℕ, Bool, true, false, Option, Some, None, List}
+use Rattle.std.proofs.Common.{◌≡◌, ◌≢◌, ◌<◌, ◌≤◌, ◌&&◌, ◌⊎◌, inl, inr, ℕ, Bool, true, false, Option, Some, None, List}
 use Rattle.std.proofs.Common.{arith, refl, sym, ap, subst, ◌∙◌}
 use Rattle.recording.specs.declared.event.Event.{Event}
 use Rattle.recording.specs.declared.event.Event.TheVariants.{L, S, R, C, F}
-use Rattle.recording.specs.Event.{is_plain_store, is_plain_load, read_address, value_read, value_written}
+use Rattle.recording.specs.Event.{is_plain_store, is_plain_load, read_address, value_read}
 use Rattle.recording.specs.Execution.{Execution, event_count, event_at, initial_value, Reads, Writes, source_of}
 use Rattle.recording.specs.Execution.{ProgramOrder, Kept}
-use Rattle.recording.specs.Order.{times, Before}
+use Rattle.recording.specs.Order.{Before}
 use Rattle.recording.specs.OrderLaws.{compare_places}
 use Rattle.recording.specs.EventLaws.{Reads-event, Writes-event}
-use Rattle.recording.specs.Tso.{IsTsoOrder, IsWellFormed, IsLastVisible, Visible, Gives}
+use Rattle.recording.specs.Tso.{IsTsoOrder, IsLastVisible, Visible, Gives}
 use Rattle.values.specs.Values.{Values, IsCompletion, AreAllowed}
 use Rattle.values.specs.Refused.{events_alone}
 use Rattle.completion.specs.Search.{IsForced}
@@ -165,9 +165,12 @@ later_rule v e a w z reads source writes other after x m h =
 
     pick : Before m e z ⊎ Before m z e → Before m e z
     pick (inl before) = before
-    pick (inr before) = absurd (omega (arith, clash before
-        ((last_of v x m h e a (Some w) reads (source x m h)).1 z
-        (writes_alone v x m h z a writes, other, inl before))))
+    pick (inr before) = absurd (omega (
+      arith,
+      clash before
+          ((last_of v x m h e a (Some w) reads (source x m h)).1 z
+          (writes_alone v x m h z a writes, other, inl before)),
+    ))
 
 -- a read of the initial value stands before each other write to the address
 pub initial_rule : (v : Values) (e a z : ℕ) → Reads (events_alone v) e a → IsSource v e None

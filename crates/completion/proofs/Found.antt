@@ -1,5 +1,5 @@
 -- Sources that code finds.
-use Rattle.std.proofs.Common.{◌≡◌, ◌<◌, ℕ, Option, Some, None, List, length, arith, sym, ◌∙◌}
+use Rattle.std.proofs.Common.{◌≡◌, ◌<◌, ℕ, Option, Some, None, List, length, arith}
 use Rattle.recording.specs.EventLaws.{Writes-event}
 use Rattle.values.specs.Values.{Values, known_source}
 use Rattle.values.specs.Refused.{events_alone}

@@ -1,5 +1,5 @@
 -- What moves lead to.
-use Rattle.std.proofs.Common.{◌≡◌, ◌+◌, ◌==◌, ◌&&◌, ℕ, Bool, true, cond, Option, Some, None, refl, ap, sym, ◌∙◌, slice_index, subst}
+use Rattle.std.proofs.Common.{◌≡◌, ◌+◌, ◌==◌, ◌&&◌, ℕ, Bool, true, cond, Option, Some, None, ap, sym, ◌∙◌, slice_index}
 use Rattle.recording.specs.declared.event.Event.{Event}
 use Rattle.recording.specs.declared.event.Event.TheVariants.{R}
 use Rattle.values.specs.Values.{Values}

@@ -1,5 +1,5 @@
 -- Rows of pairs, of which one changes.
-use Rattle.std.proofs.Common.{◌≡◌, ◌≢◌, ◌<◌, ◌≤◌, ◌==◌, ◌||◌, ◌⊎◌, inl, inr, ℕ, zero, suc, Bool, true, false, List, [], ◌∷◌, ◌++◌}
+use Rattle.std.proofs.Common.{◌≡◌, ◌<◌, ◌==◌, ◌||◌, ◌⊎◌, inl, inr, ℕ, zero, suc, Bool, true, false, List, [], ◌∷◌, ◌++◌}
 use Rattle.std.proofs.Common.{length, get_or, slice_set, arith, refl, sym, ap, subst, ◌∙◌, get_or-set_same, get_or-set_other}
 use Rattle.std.proofs.Common.{length-set}
 use Rattle.std.proofs.Common.{take, drop}
@@ -9,7 +9,7 @@ use Rattle.completion.proofs.ForcingRules.{between_rule}
 use Rattle.bitrow.specs.Bits.{is_in}
 use Rattle.values.specs.Values.{Values}
 use Rattle.completion.specs.Search.{IsForced}
-use Rattle.completion.specs.Pairs.{IsSquare, HasPair, AreForced}
+use Rattle.completion.specs.Pairs.{IsSquare, AreForced}
 
 -- rows stay square
 pub set_square : (rows : List (List Bool)) (e : ℕ) (row : List Bool) → IsSquare rows → length row ≡ length rows

@@ -53,13 +53,7 @@ fn is_left(values: &Values, row: &Row, core: usize, place: usize) -> bool
 }
 
 /// Whether an event, by its core and place, is forced before another, by its number.
-fn is_before(
-    values: &Values,
-    pairs: &[BitRow],
-    core: usize,
-    place: usize,
-    number: usize,
-) -> bool
+fn is_before(values: &Values, pairs: &[BitRow], core: usize, place: usize, number: usize) -> bool
     requires square { IsSquare pairs.now }
     requires forced { AreForced values.now pairs.now }
     ensures forced { IsTrue result → IsForced values.now (number_of values.now.cores core place) number }

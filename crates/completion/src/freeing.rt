@@ -13,7 +13,14 @@ use recording::Event;
 use values::Values;
 
 /// Whether a load may take its value from where it finds it, as far as its source is known.
-fn may_forward(values: &Values, row: &Row, core: usize, from: usize, at: usize, address: Addr) -> bool
+fn may_forward(
+    values: &Values,
+    row: &Row,
+    core: usize,
+    from: usize,
+    at: usize,
+    address: Addr,
+) -> bool
     ensures { result ≡ may_read (source_at values.now core at) (mark_read values.now core
         (slice_index row.now.memory.marks address)
         (youngest address None from (between (events_of values.now.cores core) from at))) }
@@ -23,8 +30,15 @@ fn may_forward(values: &Values, row: &Row, core: usize, from: usize, at: usize, 
         return true;
     }
     let seen = between(values.events(core), from, at);
-    let own = if seen.is_empty() { None } else { youngest(address, from, seen) };
-    may_read(known, mark_read(values, core, mark_at(row.marks(), address), own))
+    let own = if seen.is_empty() {
+        None
+    } else {
+        youngest(address, from, seen)
+    };
+    may_read(
+        known,
+        mark_read(values, core, mark_at(row.marks(), address), own),
+    )
 }
 
 /// Whether the event of a core at a place is executed at once, after those from a place on.

@@ -1,4 +1,4 @@
-use Rattle.std.proofs.Common.{◌≡◌, Bool, List, sym, subst}
+use Rattle.std.proofs.Common.{Bool, List, sym, subst}
 use Rattle.completion.specs.Pairs.{AreForced}
 use Rattle.completion.proofs.ForcingRules.{circle_rule}
 use Rattle.completion.proofs.completing.complete.Goals as goal

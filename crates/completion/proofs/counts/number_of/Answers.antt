@@ -1,4 +1,4 @@
-use Rattle.std.proofs.Common.{ℕ, List, length, ap, ◌∙◌}
+use Rattle.std.proofs.Common.{List, length, ap}
 use Rattle.recording.specs.declared.event.Event.{Event}
 use Rattle.completion.proofs.Numbers.{bounded_more}
 use Rattle.completion.proofs.counts.number_of.Goals as goal

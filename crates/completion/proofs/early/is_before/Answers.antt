@@ -1,4 +1,4 @@
-use Rattle.std.proofs.Common.{◌≡◌, ◌<◌, ◌-◌, ◌^◌, ℕ, min, arith, subst}
+use Rattle.std.proofs.Common.{◌≡◌, ◌<◌, ◌-◌, ◌^◌, ℕ, arith, subst}
 use Rattle.completion.specs.Situation.{number_of}
 use Rattle.completion.specs.Search.{IsForced}
 use Rattle.completion.proofs.early.is_before.Goals as goal

@@ -1,7 +1,7 @@
-use Rattle.std.proofs.Common.{◌≡◌, ◌<◌, ◌-◌, ℕ, List, length, get_or, arith, sym, ap, ◌∙◌}
+use Rattle.std.proofs.Common.{◌<◌, ◌-◌, ℕ, List, length, get_or, arith, sym, ap, ◌∙◌}
 use Rattle.recording.specs.Event.{value_written}
 use Rattle.recording.specs.Execution.{event_at}
-use Rattle.completion.proofs.Finals.{not_empty, final_past, final_unwritten, final_written}
+use Rattle.completion.proofs.Finals.{not_empty, final_past, final_written}
 use Rattle.completion.proofs.known.final_value.Goals as goal
 
 pub returns-then-address-init : goal.returns-then-address-init

@@ -1,4 +1,4 @@
-use Rattle.std.proofs.Common.{◌≡◌, ◌<◌, ◌==◌, ◌||◌, ℕ, Bool, List, [], length, get_or, subst, arith, ◌∙◌}
+use Rattle.std.proofs.Common.{◌≡◌, ◌<◌, ◌==◌, ◌||◌, ℕ, Bool, List, [], length, subst, arith}
 use Rattle.std.proofs.lemmas.List.{get_or_default}
 use Rattle.bitrow.specs.Bits.{is_in}
 use Rattle.completion.proofs.Rows.{put_forced}

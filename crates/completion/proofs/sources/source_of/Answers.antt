@@ -1,4 +1,4 @@
-use Rattle.std.proofs.Common.{◌≡◌, List, Option, ℕ, None, get_or, sym, subst, ap, ◌∙◌}
+use Rattle.std.proofs.Common.{List, Option, ℕ, None, get_or, sym, subst, ap, ◌∙◌}
 use Rattle.completion.specs.declared.sources.Source.{Source}
 use Rattle.completion.specs.Pairs.{IsFoundSource}
 use Rattle.completion.proofs.Found.{found_known}

@@ -1,6 +1,6 @@
 use Rattle.std.proofs.Common.{◌≡◌, ◌+◌, ◌∙◌, ℕ, true, sym, ap}
 use Rattle.completion.specs.Situation.{Situation, place_of, with_place, written}
-use Rattle.completion.proofs.Moved.{modified_is, may_modify_at}
+use Rattle.completion.proofs.Moved.{modified_is}
 use Rattle.completion.proofs.steps.modified.Goals as goal
 
 pub returns : goal.returns
