@@ -20,7 +20,8 @@ pub fn completion_answer(
 ) -> Result<Answer, OutOfMemory>
     ensures { IfOk result (IsCompletionAnswer values.now) }
 {
-    match complete(alloc, values, states)? {
+    let limit = states.min(u32::MAX as usize) as u32;
+    match complete(alloc, values, limit)? {
         Completion::Completed(recording, _order) => {
             let text = write_recording(alloc, &recording)?;
             Ok(Answer {
