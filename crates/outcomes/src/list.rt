@@ -12,6 +12,7 @@ use crate::law::every_outcome_is_reached;
 use crate::ops::{between, oldest};
 use crate::outcome::Outcome;
 use crate::row::Row;
+use crate::rows::Rows;
 use crate::seen::search;
 use common::{CoreId, OutOfMemory};
 use indexmap::IndexSet;
@@ -56,13 +57,14 @@ fn add(alloc: Global, row: &Row, found: &mut IndexSet<Outcome>) -> Result<(), Ou
 }
 
 /// The outcomes of the rows in which every core has come to its end.
-fn endings(alloc: Global, program: &Program, rows: &[Row]) -> Result<IndexSet<Outcome>, OutOfMemory>
-    ensures { IfOk result (λ found. AreEndings program.now.cores rows.now found.keys) }
+fn endings(alloc: Global, program: &Program, rows: &Rows) -> Result<IndexSet<Outcome>, OutOfMemory>
+    ensures { IfOk result (λ found. AreEndings program.now.cores rows.now.keys found.keys) }
 {
     let mut found = IndexSet::new(alloc);
-    for row in rows {
-        if is_end(program, row) {
-            add(alloc, row, &mut found)?;
+    for at in 0..rows.len() {
+        let row = rows.row(alloc, at)?;
+        if is_end(program, &row) {
+            add(alloc, &row, &mut found)?;
         }
     }
     Ok(found)
@@ -73,13 +75,13 @@ fn endings(alloc: Global, program: &Program, rows: &[Row]) -> Result<IndexSet<Ou
 pub(crate) fn listed(
     alloc: Global,
     program: &Program,
-    rows: &[Row],
+    rows: &Rows,
 ) -> Result<IndexSet<Outcome>, OutOfMemory>
-    requires { AreReachable program.now rows.now }
+    requires { AreReachable program.now rows.now.keys }
     ensures exact { IfOk result (λ found. AreOutcomes program.now found.keys) }
     ensures sorted { IfOk result (λ found. IsSorted compared found.keys) }
     ensures once { IfOk result (λ found. IsDistinct same_outcome found.keys) }
-    ensures ending { IfOk result (λ found. All (IsEnding program.now.cores rows.now) found.keys) }
+    ensures ending { IfOk result (λ found. All (IsEnding program.now.cores rows.now.keys) found.keys) }
 {
     every_outcome_is_reached();
     program.sound();
@@ -103,5 +105,5 @@ pub fn outcomes(
     let Some(seen) = search(alloc, program, limit)? else {
         return Ok(None);
     };
-    Ok(Some(listed(alloc, program, seen.as_slice())?))
+    Ok(Some(listed(alloc, program, &seen)?))
 }

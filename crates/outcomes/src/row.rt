@@ -104,6 +104,22 @@ impl Row {
         })
     }
 
+    /// All words of the row: its places and drains, then the values of the addresses, and those that events read.
+    pub(crate) fn words(&self) -> &[u32]
+        ensures row { row_of (length self.now.places) (length self.now.memory) result.now ≡ self.now }
+        ensures many { length result.now
+            ≡ length self.now.places + length self.now.places + length self.now.memory + length self.now.reads }
+    {
+        &self.words
+    }
+
+    /// How many cores there are.
+    pub(crate) fn cores(&self) -> usize
+        ensures { result ≡ length self.now.places }
+    {
+        self.cores
+    }
+
     /// For each core the place of the first operation that it has not executed.
     fn places(&self) -> &[u32]
         ensures { result.now ≡ self.now.places }

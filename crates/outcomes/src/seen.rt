@@ -4,66 +4,62 @@ ghost use Rattle.std.specs.Prelude.{◌≡◌, ◌<◌, ◌≤◌, ℕ, All, Con
 ghost use Rattle.std.specs.Prelude.{length, slice_get};
 ghost use Rattle.outcomes.specs.declared.moves.Move.{Move};
 ghost use Rattle.outcomes.specs.Situation.{Situation, beginning, moved};
-ghost use Rattle.outcomes.specs.Row.{with_next};
-ghost use Rattle.outcomes.specs.Reachable.{AreInOrder, AreReachable, HasMore, HasMove, HasNext, Grows, Leads};
+ghost use Rattle.outcomes.specs.Row.{FitsAmong, with_next};
+ghost use Rattle.outcomes.specs.Reachable.{AreInOrder, AreReachable, HasMore, HasMove, HasNext, HasPlace, Grows, Leads};
 
 use crate::moves::{Move, Turn};
 use crate::opening::beginning;
 use crate::row::Row;
+use crate::rows::Rows;
 use crate::steps::after;
 use common::OutOfMemory;
-use indexmap::IndexSet;
 use program::Program;
 use std::alloc::Global;
 
 /// Adds a row, if there is one, unless it is there.
-fn add(seen: &mut IndexSet<Row>, next: Option<Row>) -> Result<(), OutOfMemory>
-    ensures { OnOk result (seen.new.keys ≡ with_next seen.old.keys next) }
+fn add(alloc: Global, seen: &mut Rows, next: Option<Row>) -> Result<(), OutOfMemory>
+    requires { IfSome next (FitsAmong seen.old) }
+    ensures { OnOk result (seen.new ≡ record seen.old { keys = with_next seen.old.keys next }) }
 {
-    if let Some(row) = next {
-        let _new = seen.insert(row)?;
+    match next {
+        Some(row) => seen.insert(alloc, &row),
+        None => Ok(()),
     }
-    Ok(())
 }
 
-/// Adds what a move of a core leads to from the row at an index.
+/// Adds what a move of a core leads to from a row that was seen.
 fn take(
     alloc: Global,
     program: &Program,
-    seen: &mut IndexSet<Row>,
-    at: usize,
+    seen: &mut Rows,
+    row: &Row,
     turn: Turn,
 ) -> Result<(), OutOfMemory>
     requires core { turn.core < length program.now.cores }
-    requires there { at < length seen.old.keys }
+    requires there { HasPlace seen.old.keys row.now }
+    requires fits { FitsAmong seen.old row.now }
     requires reached { All (Leads program.now.cores (beginning program.now)) seen.old.keys }
     requires order { AreInOrder program.now seen.old.keys }
     ensures grows { OnOk result (Grows seen.old.keys seen.new.keys) }
     ensures reached { OnOk result (All (Leads program.now.cores (beginning program.now)) seen.new.keys) }
     ensures order { OnOk result (AreInOrder program.now seen.new.keys) }
-    ensures next { OnOk result ((r : Situation) → slice_get seen.old.keys at ≡ Some r
-        → HasMove program.now.cores seen.new.keys r turn.step turn.core) }
+    ensures next { OnOk result (HasMove program.now.cores seen.new.keys row.now turn.step turn.core) }
+    ensures rest { OnOk result (seen.new ≡ record seen.old { keys = seen.new.keys }) }
 {
-    let row = &seen.as_slice()[at];
     let next = after(alloc, program, row, turn.step, turn.core)?;
-    add(seen, next)
+    add(alloc, seen, next)
 }
 
-/// Adds what all moves lead to from the row at an index.
-fn expand(
-    alloc: Global,
-    program: &Program,
-    seen: &mut IndexSet<Row>,
-    at: usize,
-) -> Result<(), OutOfMemory>
-    requires there { at < length seen.old.keys }
+/// Adds what all moves lead to from a row that was seen.
+fn take_all(alloc: Global, program: &Program, seen: &mut Rows, row: &Row) -> Result<(), OutOfMemory>
+    requires there { HasPlace seen.old.keys row.now }
+    requires fits { FitsAmong seen.old row.now }
     requires reached { All (Leads program.now.cores (beginning program.now)) seen.old.keys }
     requires order { AreInOrder program.now seen.old.keys }
     ensures grows { OnOk result (Grows seen.old.keys seen.new.keys) }
     ensures reached { OnOk result (All (Leads program.now.cores (beginning program.now)) seen.new.keys) }
     ensures order { OnOk result (AreInOrder program.now seen.new.keys) }
-    ensures next { OnOk result ((r : Situation) → slice_get seen.old.keys at ≡ Some r
-        → HasNext program.now.cores seen.new.keys r) }
+    ensures next { OnOk result (HasNext program.now.cores seen.new.keys row.now) }
 {
     for core in 0..program.cores() {
         let exec = Turn {
@@ -74,30 +70,43 @@ fn expand(
             step: Move::Drain,
             core,
         };
-        take(alloc, program, seen, at, exec)?;
-        take(alloc, program, seen, at, drain)?;
+        take(alloc, program, seen, row, exec)?;
+        take(alloc, program, seen, row, drain)?;
     }
     Ok(())
 }
 
+/// Adds what all moves lead to from the row with a number.
+fn expand(alloc: Global, program: &Program, seen: &mut Rows, at: usize) -> Result<(), OutOfMemory>
+    requires there { at < length seen.old.keys }
+    requires reached { All (Leads program.now.cores (beginning program.now)) seen.old.keys }
+    requires order { AreInOrder program.now seen.old.keys }
+    ensures grows { OnOk result (Grows seen.old.keys seen.new.keys) }
+    ensures reached { OnOk result (All (Leads program.now.cores (beginning program.now)) seen.new.keys) }
+    ensures order { OnOk result (AreInOrder program.now seen.new.keys) }
+    ensures next { OnOk result ((r : Situation) → slice_get seen.old.keys at ≡ Some r
+        → HasNext program.now.cores seen.new.keys r) }
+{
+    let row = seen.row(alloc, at)?;
+    take_all(alloc, program, seen, &row)
+}
+
 /// The rows that moves lead to from the beginning of a program, each once; None where there are more than
-/// `limit`. Fails only if out of memory.
-pub fn search(
-    alloc: Global,
-    program: &Program,
-    limit: usize,
-) -> Result<Option<IndexSet<Row>>, OutOfMemory>
+/// `limit`. Fails only if out of memory, or with 2^32 - 1 rows.
+pub fn search(alloc: Global, program: &Program, limit: usize) -> Result<Option<Rows>, OutOfMemory>
     ensures found { IfOk result (λ o. IfSome o (λ seen. AreReachable program.now seen.keys)) }
     // None only where there are more.
     ensures more { IfOk result (λ o. IfNone o (HasMore program.now limit)) }
 {
-    let mut seen = IndexSet::new(alloc);
-    let _new = seen.insert(beginning(alloc, program)?)?;
+    program.sound();
+    let first = beginning(alloc, program)?;
+    let mut seen = Rows::of(alloc, &first)?;
     for at in 0..limit {
         if at == seen.len() {
             return Ok(Some(seen));
         }
         if limit < seen.len() {
+            seen.sound();
             return Ok(None);
         }
         expand(alloc, program, &mut seen, at)?;
@@ -105,5 +114,6 @@ pub fn search(
     if seen.len() == limit {
         return Ok(Some(seen));
     }
+    seen.sound();
     Ok(None)
 }

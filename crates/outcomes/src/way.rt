@@ -7,6 +7,7 @@ ghost use Rattle.outcomes.specs.Reachable.{AreInOrder, after_moves};
 
 use crate::moves::{Move, Turn};
 use crate::row::Row;
+use crate::rows::Rows;
 use crate::steps::after;
 use common::OutOfMemory;
 use program::Program;
@@ -64,19 +65,21 @@ fn turn_between(
 pub(crate) fn way_to(
     alloc: Global,
     program: &Program,
-    rows: &[Row],
+    rows: &Rows,
     at: usize,
 ) -> Result<Vec<Turn>, OutOfMemory>
-    requires order { AreInOrder program.now rows.now }
-    requires there { at < length rows.now }
+    requires order { AreInOrder program.now rows.now.keys }
+    requires there { at < length rows.now.keys }
     ensures { IfOk result (λ turns.
-        after_moves program.now.cores (beginning program.now) turns.items ≡ slice_get rows.now at) }
+        after_moves program.now.cores (beginning program.now) turns.items ≡ slice_get rows.now.keys at) }
 {
     let mut turns = Vec::new(alloc);
     let mut to = at;
     for tried in 0..at {
         let from = at - 1 - tried;
-        match turn_between(alloc, program, &rows[from], &rows[to])? {
+        let earlier = rows.row(alloc, from)?;
+        let later = rows.row(alloc, to)?;
+        match turn_between(alloc, program, &earlier, &later)? {
             Some(turn) => {
                 turns.push(turn)?;
                 to = from;

@@ -11,6 +11,7 @@ use crate::list::{is_end, listed};
 use crate::observed::{Observation, shows_all};
 use crate::outcome::Outcome;
 use crate::row::Row;
+use crate::rows::Rows;
 use crate::seen::search;
 use crate::way::way_to;
 use common::OutOfMemory;
@@ -49,31 +50,37 @@ fn comes_to(program: &Program, row: &Row, outcome: &Outcome) -> bool
 }
 
 /// The index of a row at its end with this outcome, where there is one.
-fn ending_with(program: &Program, rows: &[Row], outcome: &Outcome) -> Option<usize>
-    ensures some { IfSome result (IsEndingAt program.now.cores rows.now outcome.now) }
-    ensures none { IfNone result (IsEnding program.now.cores rows.now outcome.now → ⊥) }
+fn ending_with(
+    alloc: Global,
+    program: &Program,
+    rows: &Rows,
+    outcome: &Outcome,
+) -> Result<Option<usize>, OutOfMemory>
+    ensures some { IfOk result (λ o. IfSome o (IsEndingAt program.now.cores rows.now.keys outcome.now)) }
+    ensures none { IfOk result (λ o. IfNone o (IsEnding program.now.cores rows.now.keys outcome.now → ⊥)) }
 {
     for at in 0..rows.len() {
-        if comes_to(program, &rows[at], outcome) {
-            return Some(at);
+        let row = rows.row(alloc, at)?;
+        if comes_to(program, &row, outcome) {
+            return Ok(Some(at));
         }
     }
-    None
+    Ok(None)
 }
 
 /// A recording of an outcome to which one of the rows comes.
 fn recording_of(
     alloc: Global,
     program: &Program,
-    rows: &[Row],
+    rows: &Rows,
     outcome: &Outcome,
 ) -> Result<Recording, OutOfMemory>
-    requires reachable { AreReachable program.now rows.now }
-    requires ending { IsEnding program.now.cores rows.now outcome.now }
+    requires reachable { AreReachable program.now rows.now.keys }
+    requires ending { IsEnding program.now.cores rows.now.keys outcome.now }
     ensures { IfOk result (IsRecordingOf program.now outcome.now) }
 {
     program.sound();
-    let Some(at) = ending_with(program, rows, outcome) else {
+    let Some(at) = ending_with(alloc, program, rows, outcome)? else {
         unreachable!()
     };
     let turns = way_to(alloc, program, rows, at)?;
@@ -94,14 +101,13 @@ pub fn first_recording(
 ) -> Result<Witness, OutOfMemory>
     ensures { IfOk result (IsWitness program.now limit seen.now) }
 {
-    let Some(all) = search(alloc, program, limit)? else {
+    let Some(rows) = search(alloc, program, limit)? else {
         return Ok(Witness::Unfinished);
     };
-    let rows = all.as_slice();
-    let found = listed(alloc, program, rows)?;
+    let found = listed(alloc, program, &rows)?;
     match first_showing(found.as_slice(), seen) {
         Some(outcome) => {
-            let recording = recording_of(alloc, program, rows, outcome)?;
+            let recording = recording_of(alloc, program, &rows, outcome)?;
             Ok(Witness::Found(recording))
         }
         None => Ok(Witness::Forbidden),

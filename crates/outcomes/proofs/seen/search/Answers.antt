@@ -1,17 +1,16 @@
 use Rattle.std.proofs.Common.{◌≡◌, ◌<◌, List, [], ◌∷◌, length, arith}
 use Rattle.outcomes.specs.Situation.{Situation}
-use Rattle.outcomes.proofs.Grown.{first_seen, first_reached, first_order, one_more, reachable, grown_length}
+use Rattle.outcomes.proofs.Grown.{first_reached, first_order, one_more, reachable, grown_length}
 use Rattle.outcomes.proofs.seen.search.Goals as goal
 
 pub loop-at-init : goal.loop-at-init
 loop-at-init c =
-    let row : Situation = c.in_ok-beginning.field-0 in
-    let keys : List Situation = c.insert.new.self.keys in
-    let one : keys ≡ row ∷ [] = first_seen keys c.new-seen.result.keys row c.new-seen.ensures.empty
-    c.in_ok-_new.ensures.keys in
+    let row : Situation = c.in_ok-first.first in
+    let keys : List Situation = c.in_ok-seen.seen.keys in
+    let one : keys ≡ row ∷ [] = c.in_ok-seen.ensures in
     record {
-      reached = first_reached c.args.program.now keys row one c.in_ok-beginning.ensures;
-      order = first_order c.args.program.now keys row one c.in_ok-beginning.ensures;
+      reached = first_reached c.args.program.now keys row one c.in_ok-first.ensures;
+      order = first_order c.args.program.now keys row one c.in_ok-first.ensures;
       within = omega arith;
       closed = λ i r low. absurd (omega (arith, low));
     }
@@ -20,21 +19,21 @@ pub returns-then-at-len-clause-found : goal.returns-then-at-len-clause-found
 returns-then-at-len-clause-found c =
     let old = c.loop-at.invariant in
     reachable c.args.program.now c.loop-at.seen.keys old.reached old.order
-    (λ i r inside at. old.closed i r (omega (arith, inside, c.if-at-len.true, c.len.ensures.len)) at)
+    (λ i r inside at. old.closed i r (omega (arith, inside, c.if-at-len.true, c.len.ensures)) at)
 
 pub returns-then-len-limit-clause-found : goal.returns-then-len-limit-clause-found
 returns-then-len-limit-clause-found c =
     let old = c.loop-at.invariant in
     reachable c.args.program.now c.loop-at.seen.keys old.reached old.order
     (λ i r inside at. old.closed i r
-    (omega (arith, inside, c.if-len-limit.true, c.len-2.ensures.len, c.loop-at-test.false)) at)
+    (omega (arith, inside, c.if-len-limit.true, c.len-2.ensures, c.loop-at-test.false)) at)
 
 pub loop-at-preserved : goal.loop-at-preserved
 loop-at-preserved c =
     let old = c.loop-at.invariant in
     let was : List Situation = c.loop-at.seen.keys in
     let new : List Situation = c.expand.new.seen.keys in
-    let inside : c.loop-at.at < length was = omega (arith, old.within, c.if-at-len.false, c.len.ensures.len) in
+    let inside : c.loop-at.at < length was = omega (arith, old.within, c.if-at-len.false, c.len.ensures) in
     record {
       reached = c.in_ok-expand.ensures.reached;
       order = c.in_ok-expand.ensures.order;

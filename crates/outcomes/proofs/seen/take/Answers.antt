@@ -1,49 +1,42 @@
-use Rattle.std.proofs.Common.{◌≡◌, ◌∙◌, Some, List, get_or, slice_get, sym, ap, subst}
+use Rattle.std.proofs.Common.{◌∙◌, List, sym, ap, subst}
 use Rattle.std.specs.List.{All, Contains}
-use Rattle.std.proofs.lemmas.Option.{get_or_from_slice_get, slice_get-get_or}
-use Rattle.outcomes.specs.Situation.{Situation, beginning, moved}
-use Rattle.outcomes.specs.Reachable.{Leads, further}
-use Rattle.outcomes.specs.Reachable.{AreInOrder}
+use Rattle.std.proofs.lemmas.Option.{get_or_from_slice_get, slice_get_within}
+use Rattle.outcomes.specs.Row.{SeenRows}
+use Rattle.outcomes.specs.Situation.{Situation, beginning}
+use Rattle.outcomes.specs.Reachable.{AreInOrder, Leads, further}
 use Rattle.outcomes.proofs.Grown.{on_ok, all_next, next_there, order_next}
+use Rattle.outcomes.proofs.SeenRows.{next_fits}
 use Rattle.outcomes.proofs.seen.take.Goals as goal
+
+pub add-requires : goal.add-requires
+add-requires c =
+    next_fits c.args.program.now.cores c.args.seen.now c.args.row.now c.in_ok-next.next c.args.turn.step
+    c.args.turn.core c.requires.fits (sym c.in_ok-next.ensures)
 
 pub returns-clause-reached : goal.returns-clause-reached
 returns-clause-reached c =
-    let row : Situation = c.index-as_slice-at.result in
-    let is : row ≡ get_or c.args.seen.now.keys c.args.at row = c.index-as_slice-at.is
-    ∙ ap (λ (l : List Situation). get_or l c.args.at row) c.as_slice.ensures.keys in
-    let led : Leads c.args.program.now.cores (beginning c.args.program.now) row =
-    subst (Leads c.args.program.now.cores (beginning c.args.program.now)) (sym is)
-    (c.requires.reached c.args.at row c.requires.there) in
+    let at = c.requires.there in
+    let led : Leads c.args.program.now.cores (beginning c.args.program.now) c.args.row.now =
+    subst (Leads c.args.program.now.cores (beginning c.args.program.now))
+    (get_or_from_slice_get c.args.seen.now.keys at.0 c.args.row.now c.args.row.now at.1)
+    (c.requires.reached at.0 c.args.row.now (slice_get_within c.args.seen.now.keys at.0 c.args.row.now at.1)) in
     on_ok _ _ c.add.result
-    (λ keys. subst (All (Leads c.args.program.now.cores (beginning c.args.program.now))) (sym keys)
+    (λ is. subst (All (Leads c.args.program.now.cores (beginning c.args.program.now)))
+    (sym (ap (λ (r : SeenRows). r.keys) is))
     (all_next (Leads c.args.program.now.cores (beginning c.args.program.now)) c.args.seen.now.keys c.in_ok-next.next
     c.requires.reached
-    (λ r next. further row r c.args.turn.step c.args.turn.core led (sym c.in_ok-next.ensures ∙ next))))
+    (λ r next. further c.args.row.now r c.args.turn.step c.args.turn.core led (sym c.in_ok-next.ensures ∙ next))))
     c.add.ensures
 
 pub returns-clause-order : goal.returns-clause-order
 returns-clause-order c =
-    let row : Situation = c.index-as_slice-at.result in
-    let is : row ≡ get_or c.args.seen.now.keys c.args.at row = c.index-as_slice-at.is
-    ∙ ap (λ (l : List Situation). get_or l c.args.at row) c.as_slice.ensures.keys in
-    let at : slice_get c.args.seen.now.keys c.args.at ≡ Some row =
-    slice_get-get_or c.args.seen.now.keys c.args.at row c.requires.there
-    ∙ ap (λ (z : Situation). Some z) (sym is) in
     on_ok _ _ c.add.result
-    (λ keys. subst (AreInOrder c.args.program.now) (sym keys)
-    (order_next c.args.program.now c.args.seen.now.keys c.in_ok-next.next c.args.at row c.args.turn c.requires.order at
-    (sym c.in_ok-next.ensures))) c.add.ensures
+    (λ is. subst (AreInOrder c.args.program.now) (sym (ap (λ (r : SeenRows). r.keys) is))
+    (order_next c.args.program.now c.args.seen.now.keys c.in_ok-next.next c.requires.there.0 c.args.row.now c.args.turn
+    c.requires.order c.requires.there.1 (sym c.in_ok-next.ensures))) c.add.ensures
 
 pub returns-clause-next : goal.returns-clause-next
 returns-clause-next c =
-    let row : Situation = c.index-as_slice-at.result in
-    let is : row ≡ get_or c.args.seen.now.keys c.args.at row = c.index-as_slice-at.is
-    ∙ ap (λ (l : List Situation). get_or l c.args.at row) c.as_slice.ensures.keys in
     on_ok _ _ c.add.result
-    (λ keys r at s leads.
-    let one : row ≡ r = is ∙ get_or_from_slice_get c.args.seen.now.keys c.args.at r row at in
-    let next : c.in_ok-next.next ≡ Some s = c.in_ok-next.ensures
-    ∙ (ap (λ (z : Situation). moved c.args.program.now.cores z c.args.turn.step c.args.turn.core) one ∙ leads) in
-    subst (λ (l : List Situation). Contains l s) (sym keys)
-    (next_there c.args.seen.now.keys c.in_ok-next.next s next)) c.add.ensures
+    (λ is s leads. subst (λ (l : List Situation). Contains l s) (sym (ap (λ (r : SeenRows). r.keys) is))
+    (next_there c.args.seen.now.keys c.in_ok-next.next s (c.in_ok-next.ensures ∙ leads))) c.add.ensures

@@ -4,5 +4,5 @@ use Rattle.outcomes.specs.Situation.{Situation, IsEnd}
 use Rattle.outcomes.proofs.witness.ending_with.Given as goal
 
 abbrev pub invariant-loop-at : goal.invariant-loop-at
-invariant-loop-at l = (k : ℕ) (r : Situation) → k < l.at → slice_get l.rows k ≡ Some r
+invariant-loop-at l = (k : ℕ) (r : Situation) → k < l.at → slice_get l.rows.keys k ≡ Some r
     → ¬ (IsEnd l.program.cores r × (outcome_in r ≡ l.outcome))

@@ -7,7 +7,7 @@ use Rattle.outcomes.proofs.witness.first_recording.Goals as goal
 
 pub recording_of-requires-clause-ending : goal.recording_of-requires-clause-ending
 recording_of-requires-clause-ending c =
-    first_holds (IsEnding c.args.program.now.cores c.as_slice-rows.result.now) c.in_ok-found.found.keys c.args.seen.now
+    first_holds (IsEnding c.args.program.now.cores c.in-Some.rows.keys) c.in_ok-found.found.keys c.args.seen.now
     c.in-Some-first_showing.outcome.now c.in_ok-found.ensures.ending
     (ap (λ (l : List Outcome). first_showing l c.args.seen.now) (sym c.as_slice.ensures.keys)
     ∙ sym c.in-Some-first_showing.ensures)
