@@ -1,5 +1,6 @@
 -- Chains of lists, of which one is put before the others in its bucket.
-use Rattle.std.proofs.Common.{◌≡◌, ◌≢◌, ◌<◌, ◌≤◌, ◌+◌, ◌==◌, ◌∙◌, inl, inr, ℕ, zero, suc, Bool, true, false, cond, List, []}
+use Rattle.std.proofs.Common.{◌≡◌, ◌≢◌, ◌<◌, ◌≤◌, ◌+◌, ◌==◌, ◌∙◌, inl, inr, ℕ, zero, suc, Bool, true, false, cond}
+use Rattle.std.proofs.Common.{List, []}
 use Rattle.std.proofs.Common.{◌∷◌, ◌++◌, length, get_or, slice_set, arith, refl, sym, ap, replicate}
 use Rattle.std.proofs.Common.{get_or-set_other, get_or-set_same, length-append, length-set}
 use Rattle.std.specs.List.{Contains, list_any}

@@ -20,7 +20,8 @@ use Rattle.outcomes.specs.declared.ops.Waiting.{Waiting}
 use Rattle.outcomes.specs.Chains.{with_list}
 use Rattle.outcomes.specs.Packed.{PackedLists}
 use Rattle.outcomes.specs.Row.{AreOnce, FitsAmong, SeenRows, row_of, same_situation}
-use Rattle.outcomes.specs.Situation.{Situation, drained_by, executed_next, may_go, moved, oldest, ops_of, performed, waiting}
+use Rattle.outcomes.specs.Situation.{Situation, drained_by, executed_next, may_go, moved, oldest, ops_of, performed}
+use Rattle.outcomes.specs.Situation.{waiting}
 use Rattle.outcomes.specs.Situation as row
 use Rattle.outcomes.proofs.ChainedLists.{with_known, with_new}
 use Rattle.outcomes.proofs.Grown.{same}
@@ -111,7 +112,8 @@ kept_by P (Err e) old new made err ok h g = subst P (sym err) h
 -- Sizes
 
 -- what an operation does keeps how many addresses and events there are
-performed_size : (r : Situation) (w : List Op) (e : ℕ) (op : Op) → (length (performed r w e op).places ≡ length r.places)
+performed_size : (r : Situation) (w : List Op) (e : ℕ) (op : Op)
+    → (length (performed r w e op).places ≡ length r.places)
     × (length (performed r w e op).memory ≡ length r.memory) × (length (performed r w e op).reads ≡ length r.reads)
 performed_size r w e (Ld a) = (refl, refl, length-set r.reads e _)
 performed_size r w e (Swap a v) = (refl, length-set r.memory a _, length-set r.reads e _)

@@ -1,6 +1,7 @@
 -- Ways from the beginning of a program.
 use Rattle.std.proofs.Common.{◌≡◌, ◌≢◌, ◌<◌, ◌≤◌, ◌+◌, ◌-◌, ◌∙◌, inl, inr, ℕ, zero, suc, Bool, true, false, cond}
-use Rattle.std.proofs.Common.{Some, None, List, [], ◌∷◌, ◌++◌, reverse, length, get_or, slice_get, drop, drop-cons, arith}
+use Rattle.std.proofs.Common.{Some, None, List, [], ◌∷◌, ◌++◌, reverse, length, get_or, slice_get, drop, drop-cons}
+use Rattle.std.proofs.Common.{arith}
 use Rattle.std.proofs.Common.{sym, ap, subst, option_and_then}
 use Rattle.std.specs.List.{All, Contains}
 use Rattle.std.proofs.lemmas.Bool.{cases_lt, cases_eq}
@@ -116,7 +117,8 @@ back_done p rows at tried (suc to) turns order inside back all =
 module _ (p : List (List Op)) (r : Situation) (turns : List Turn) (i : ℕ) where
   -- those that are left begin with the next one
   rest_is : (d : Turn) → i < length turns → after_moves p r (drop i turns)
-      ≡ option_and_then (λ s. after_moves p s (drop (i + 1) turns)) (moved p r (get_or turns i d).step (get_or turns i d).core)
+      ≡ option_and_then (λ s. after_moves p s (drop (i + 1) turns))
+      (moved p r (get_or turns i d).step (get_or turns i d).core)
   rest_is d inside =
       let next : suc i ≡ i + 1 = omega arith in
       ap (after_moves p r) (drop-cons turns i d inside)

@@ -29,7 +29,8 @@ take-requires-clause-there c =
     (at.0, place_grown c.args.seen.now.keys c.loop-core.seen.keys at.0 c.args.row.now c.loop-core.invariant.grows at.1)
 
 pub take-requires-clause-fits : goal.take-requires-clause-fits
-take-requires-clause-fits c = fits_still c.args.seen.now c.loop-core.seen c.args.row.now c.requires.fits c.loop-core.invariant.rest
+take-requires-clause-fits c =
+    fits_still c.args.seen.now c.loop-core.seen c.args.row.now c.requires.fits c.loop-core.invariant.rest
 
 pub take-requires-in-loop-core-clause-there : goal.take-requires-in-loop-core-clause-there
 take-requires-in-loop-core-clause-there c =

@@ -1,4 +1,5 @@
-use Rattle.std.proofs.Common.{◌≡◌, ◌<◌, ◌/◌, ◌%◌, ◌*◌, ◌∙◌, [], ℕ, List, ap, arith, drop, get_or, length, map, sym, take}
+use Rattle.std.proofs.Common.{◌≡◌, ◌<◌, ◌/◌, ◌%◌, ◌*◌, ◌∙◌, [], ℕ, List, ap, arith, drop, get_or, length, map, sym}
+use Rattle.std.proofs.Common.{take}
 use Rattle.std.proofs.lemmas.List.{length-map}
 use Rattle.std.proofs.lemmas.List.FromFn.{get_or-map-range_with_len, length-map-range_with_len}
 use Rattle.outcomes.specs.Packed.{PackedLists, list_at, lists_in}
@@ -34,7 +35,8 @@ returns c =
     let blocks : List (List ℕ) = map (λ b. b.items) c.self.inside.blocks.items in
     let same : length (lists_in w c.self.inside.count blocks) ≡ length c.args.self.now.lists =
     ap (λ (p : PackedLists). length p.lists) c.self.view_is in
-    let low : c.args.number < c.self.inside.count = omega (arith, c.requires, same, length-map-range_with_len (list_at w blocks) 0 c.self.inside.count) in
+    let low : c.args.number < c.self.inside.count =
+    omega (arith, c.requires, same, length-map-range_with_len (list_at w blocks) 0 c.self.inside.count) in
     let whole = is_whole w c.self.inside.count blocks c.self.invariant c.args.number low in
     let here : c.as_slice-block.result.now ≡ get_or blocks (c.args.number / 64) [] = c.as_slice-block.ensures.value
     ∙ sym (block_is c.self.inside.blocks.items (c.args.number / 64) c.index.result.now

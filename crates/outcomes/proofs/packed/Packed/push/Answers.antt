@@ -3,7 +3,8 @@ use Rattle.std.proofs.Common.{slice_set, subst, sym}
 use Rattle.std.proofs.lemmas.List.{length-map, set-get_or}
 use Rattle.std.proofs.lemmas.List.FromFn.{length-map-range_with_len}
 use Rattle.outcomes.specs.Packed.{AreFull, PackedLists, list_at, lists_in}
-use Rattle.outcomes.proofs.PackedLists.{added_full, added_lists, begun_full, begun_lists, block_added, block_is, block_set}
+use Rattle.outcomes.proofs.PackedLists.{added_full, added_lists, begun_full, begun_lists, block_added, block_is}
+use Rattle.outcomes.proofs.PackedLists.{block_set}
 use Rattle.outcomes.proofs.PackedLists.{on_err, one_list_more}
 use Rattle.outcomes.proofs.packed.Packed.push.Goals as goal
 use Rattle.outcomes.proofs.packed.Packed.push.Goals.{then-self-eq0+in_ok-block+in_ok-extend_from_slice+in_ok-push}

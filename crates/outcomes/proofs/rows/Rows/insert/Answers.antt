@@ -29,7 +29,8 @@ returns c =
     let old : map (row_of n a) lists ≡ c.args.self.now.keys = ap (λ (r : SeenRows). r.keys) c.self.view_is in
     let made : row_of n a words ≡ c.args.row.now =
     ap (λ (k : ℕ). row_of k a words) (cores ∙ sym c.requires.cores)
-    ∙ (ap (λ (k : ℕ). row_of (length c.args.row.now.places) k words) (addresses ∙ sym c.requires.addresses) ∙ c.words.ensures.row) in
+    ∙ (ap (λ (k : ℕ). row_of (length c.args.row.now.places) k words) (addresses ∙ sym c.requires.addresses)
+    ∙ c.words.ensures.row) in
     let keys : map (row_of n a) (with_list lists words)
     ≡ insert_key same_situation c.args.self.now.keys c.args.row.now =
     row_added n a lists words
