@@ -91,8 +91,8 @@ fn told_values(alloc: Global, contents: Parsed) -> Result<Values, OutOfMemory>
     Values::new(alloc, events.as_slice(), sources, init, final_values)
 }
 
-/// The values of these contents, or the first refusal: of the version, and what `Values::refusal` refuses. Else it fails
-/// only if out of memory.
+/// The values of these contents, or the first refusal: of the version, and what `Values::refusal` refuses. Else it
+/// fails only if out of memory.
 fn values_of(alloc: Global, contents: Parsed) -> Result<Values, RecError>
     ensures { (bytes : List ℕ) → IsHeldOf bytes contents → IsValuesReading bytes result }
 {
