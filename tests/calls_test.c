@@ -163,6 +163,12 @@ static void surveys(void)
     assert(found.kind == TSOTEST_CYCLE && found.cycle == 512);
     found = tsotest_finding_of(65536 * 7 + 3);
     assert(found.kind == TSOTEST_UNREAD && found.refusal == 7 && found.at == 3);
+    /* The least and the greatest code of each kind that a survey may give, and those beside them. */
+    assert(tsotest_finding_of(15).kind == TSOTEST_ORDERED && tsotest_finding_of(16).kind == TSOTEST_CYCLE);
+    assert(tsotest_finding_of(18).cycle == 2 && tsotest_finding_of(65535).kind == TSOTEST_CYCLE);
+    assert(tsotest_finding_of(65536).kind == TSOTEST_UNREAD && tsotest_finding_of(65536).refusal == 1);
+    assert(tsotest_finding_of(1048575).kind == TSOTEST_UNREAD && tsotest_finding_of(1048576).kind == TSOTEST_OVERLOOK);
+    assert(tsotest_finding_of(1048576 + 1024).load == 1);
 }
 
 static void kinds(void)
