@@ -62,8 +62,8 @@ IsShowAnswer p states seen answer =
     ⊎ ((¬ IsExplained p seen × IsText Violation (condition_text false) answer) ⊎ IsUnfinished p states answer)
 
 -- a recording of the first outcome that has what a condition says
-abbrev pub IsShown : Parts → ℕ → List ℕ → Answer → Type 0
-IsShown p states text answer =
+abbrev pub IsShownOutcome : Parts → ℕ → List ℕ → Answer → Type 0
+IsShownOutcome p states text answer =
     (seen : List Observation) × (condition_of p text ≡ Ok seen) × IsShowAnswer p states seen answer
 
 -- the answer to a question about the outcomes of a program
@@ -75,7 +75,7 @@ IsQuestionAnswer inputs p states (Exists items) answer =
     IsConditioned p states condition.Exists (string_bytes items) answer
 IsQuestionAnswer inputs p states (Never items) answer =
     IsConditioned p states condition.Never (string_bytes items) answer
-IsQuestionAnswer inputs p states (Show items) answer = IsShown p states (string_bytes items) answer
+IsQuestionAnswer inputs p states (Show items) answer = IsShownOutcome p states (string_bytes items) answer
 
 -- the answer of outcomes
 abbrev pub IsOutcomes : (List ℕ → Option (List ℕ)) → OutcomesOptions → Answer → Type 0

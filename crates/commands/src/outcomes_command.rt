@@ -3,7 +3,7 @@ ghost use Rattle.std.specs.Prelude.{◌≡◌, ◌∷◌, [], IfErr, IfOk, Ok, s
 ghost use Rattle.inputs.specs.Inputs.{CanRead, ReadsNamed};
 ghost use Rattle.outcome_texts.specs.ObservedLine.{condition_of};
 ghost use Rattle.commands.specs.Outcomes.{IsConditionStop, IsConditioned, IsLogAt, IsLogStop, IsOutcomes};
-ghost use Rattle.commands.specs.Outcomes.{IsOutcomesStop, IsQuestionAnswer, IsQuestionStop, IsShown, item_line};
+ghost use Rattle.commands.specs.Outcomes.{IsOutcomesStop, IsQuestionAnswer, IsQuestionStop, IsShownOutcome, item_line};
 ghost use Rattle.commands.specs.Outcomes.{question_names};
 
 use crate::shown_outcome::show_answer;
@@ -77,7 +77,7 @@ fn shown(
     states: usize,
     text: &str,
 ) -> Result<Answer, CommandStop>
-    ensures ok { IfOk result (IsShown program.now states text.now) }
+    ensures ok { IfOk result (IsShownOutcome program.now states text.now) }
     ensures err { IfErr result (λ stop. IsConditionStop text.now stop program.now) }
 {
     let seen = items_of(alloc, program, text)?;
