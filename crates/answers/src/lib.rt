@@ -11,8 +11,9 @@ mod shown;
 
 pub use campaigns::{campaign_answer, survey_answer, trials_answer};
 pub use completion_answers::completion_answer;
-pub use outcome_answers::{Condition, condition_answer, log_answer, met_answer, outcomes_answer};
-pub use outcome_answers::unfinished_answer;
+pub use outcome_answers::{
+    Condition, condition_answer, log_answer, met_answer, outcomes_answer, unfinished_answer,
+};
 pub use reduced::{line_answer, reduced_answer};
 pub use rendering::{Rendering, rendered_answer};
 pub use runs::{finished, script_answer, seeded_answer};

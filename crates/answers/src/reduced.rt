@@ -25,11 +25,7 @@ use std::alloc::Global;
 use texts::{put_numbers, put_text};
 
 /// Adds the line of a label.
-fn put_label_line(
-    out: &mut Vec<u8>,
-    labels: &Labels,
-    number: EventId,
-) -> Result<(), OutOfMemory>
+fn put_label_line(out: &mut Vec<u8>, labels: &Labels, number: EventId) -> Result<(), OutOfMemory>
     ensures { OnOk result (out.new.items ≡ out.old.items ++ label_line labels.now number) }
 {
     put_text(out, labels.label(number))?;

@@ -13,7 +13,7 @@ pub mod words;
 
 pub use meanings::{REFUSAL_MEANINGS, meaning_named};
 pub use options::{
-    CompleteOptions, DrawOptions, ExplainOptions, FileOptions, JudgeOptions, LiveOptions, MergeOptions, Misfit,
-    OptionRefusal, OptionStop, Options, OutcomesOptions, Question, RunOptions, SurveyOptions,
-    TrialsOptions, VerifyOptions,
+    CompleteOptions, DrawOptions, ExplainOptions, FileOptions, JudgeOptions, LiveOptions,
+    MergeOptions, Misfit, OptionRefusal, OptionStop, Options, OutcomesOptions, Question,
+    RunOptions, SurveyOptions, TrialsOptions, VerifyOptions,
 };

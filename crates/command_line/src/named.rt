@@ -8,8 +8,9 @@ ghost use Rattle.command_line.specs.Refusals.{refusal_of};
 
 use crate::entries::{maybe_text, maybe_texts};
 use crate::options::{
-    CompleteOptions, DrawOptions, ExplainOptions, FileOptions, JudgeOptions, LiveOptions, MergeOptions, Options,
-    OutcomesOptions, Question, RunOptions, SurveyOptions, TrialsOptions, VerifyOptions,
+    CompleteOptions, DrawOptions, ExplainOptions, FileOptions, JudgeOptions, LiveOptions,
+    MergeOptions, Options, OutcomesOptions, Question, RunOptions, SurveyOptions, TrialsOptions,
+    VerifyOptions,
 };
 use crate::values::Values;
 use campaign::Campaign;

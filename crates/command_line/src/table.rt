@@ -331,7 +331,9 @@ pub const COMMANDS: &[CommandRow] = &[
     },
     CommandRow {
         name: "outcomes",
-        arguments: &[PROGRAM, STATES, OBSERVED, UNSEEN, EXISTS, NEVER, SHOW_ITEMS, WORDS],
+        arguments: &[
+            PROGRAM, STATES, OBSERVED, UNSEEN, EXISTS, NEVER, SHOW_ITEMS, WORDS,
+        ],
     },
     CommandRow {
         name: "complete",

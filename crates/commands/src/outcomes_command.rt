@@ -71,12 +71,7 @@ fn conditioned(
 }
 
 /// How the first outcome of a program comes about that has what a condition says.
-fn shown(
-    alloc: Global,
-    program: &Program,
-    states: usize,
-    text: &str,
-) -> Result<Answer, CommandStop>
+fn shown(alloc: Global, program: &Program, states: usize, text: &str) -> Result<Answer, CommandStop>
     ensures ok { IfOk result (IsShownOutcome program.now states text.now) }
     ensures err { IfErr result (λ stop. IsConditionStop text.now stop program.now) }
 {

@@ -57,7 +57,11 @@ fn replay_text(
 }
 
 /// The replay of the least order of a recording, or the verdict on a violation.
-pub(crate) fn replay_of(alloc: Global, recording: &Recording, verdict: &Verdict) -> Result<Answer, OutOfMemory>
+pub(crate) fn replay_of(
+    alloc: Global,
+    recording: &Recording,
+    verdict: &Verdict,
+) -> Result<Answer, OutOfMemory>
     requires numbered { IsNumberedByFirstUse recording.now }
     requires found { IsVerdict recording.now verdict.now }
     requires verified { Verifies recording.now verdict.now }

@@ -10,11 +10,7 @@ use recording::Event;
 use texts::{put_text, put_text_and_number};
 
 /// Adds the name of an address.
-pub fn put_address(
-    out: &mut Vec<u8>,
-    names: &Names,
-    address: Addr,
-) -> Result<(), OutOfMemory>
+pub fn put_address(out: &mut Vec<u8>, names: &Names, address: Addr) -> Result<(), OutOfMemory>
     ensures { OnOk result (out.new.items ≡ out.old.items ++ address_text names.now address) }
 {
     put_text(out, names.address(address))
@@ -60,11 +56,7 @@ fn put_read(
 
 /// Adds what an event did.
 #[tactic(auto, unfolding(crate::specs::Events::event_text))]
-pub fn put_event(
-    out: &mut Vec<u8>,
-    names: &Names,
-    event: &Event,
-) -> Result<(), OutOfMemory>
+pub fn put_event(out: &mut Vec<u8>, names: &Names, event: &Event) -> Result<(), OutOfMemory>
     ensures { OnOk result (out.new.items ≡ out.old.items ++ event_text names.now event.now) }
 {
     match event {
