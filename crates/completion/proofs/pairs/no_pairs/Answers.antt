@@ -21,7 +21,7 @@ loop-preserved c =
     let items = c.in_ok-push.ensures.items in
     record {
       count = omega (arith, c.in_ok-push.ensures.len, c.loop.invariant.count, ap (λ (l : List (List Bool)). length l) items);
-      none = subst (λ (l : List (List Bool)). (i j : ℕ) → is_in (get_or l i []) j ≡ false) (sym items) more.0;
-      size = subst (λ (l : List (List Bool)). (i : ℕ) → i < length l → length (get_or l i []) ≡ c.args.count) (sym items)
+      none = subst (λ (l : List (List Bool)). (i j : ℕ) → is_in (get_or l i []) j ≡ false) (sym {A = List (List Bool)} items) more.0;
+      size = subst (λ (l : List (List Bool)). (i : ℕ) → i < length l → length (get_or l i []) ≡ c.args.count) (sym {A = List (List Bool)} items)
           more.1;
     }
