@@ -329,8 +329,8 @@ With `--show` stands a recording of the first outcome that has all of the items,
 `replay` prints of it: `buffer N`, a program and a script, with empty lines between; or `No`,
 if no outcome has them.
 
-The states of a machine with store buffers are looked at, some 700,000 a second, of some 180
-bytes each. If there are more than `--states` allows, `unfinished` is printed alone.",
+The states of a machine with store buffers are looked at, about a million a second, of about
+100 bytes each. If there are more than `--states` allows, `unfinished` is printed alone.",
     statuses: "Exit status:
   0  the outcomes are printed, or a recording of one; each line of the log is allowed; the
      condition holds
