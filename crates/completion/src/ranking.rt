@@ -42,7 +42,7 @@ impl Mixer {
 }
 
 /// The write that a move of a core brings to memory, if the move can be made as far as its place says.
-fn write_of(values: &Values, row: &Row, step: Move, core: usize) -> Option<Waiting> {
+pub(crate) fn write_of(values: &Values, row: &Row, step: Move, core: usize) -> Option<Waiting> {
     let events = values.events(core);
     let place = row.place(core);
     match step {
