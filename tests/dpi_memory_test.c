@@ -5,7 +5,7 @@
 
 #include <assert.h>
 
-enum { CYCLE = 2, TEXTS = 7 };
+enum { CYCLE = 2, TEXTS = 9 };
 
 void *__real_malloc(size_t);
 void *__real_realloc(void *, size_t);
@@ -48,6 +48,8 @@ static const char *text_of_run(int which)
     case 3: return tsotest_dpi_explanation();
     case 4: return tsotest_dpi_drawing(0);
     case 5: return tsotest_dpi_drawing(1);
+    case 6: return tsotest_dpi_labels();
+    case 7: return tsotest_dpi_values_alone();
     default: return tsotest_dpi_reduction();
     }
 }
@@ -66,7 +68,7 @@ static void record_run(void)
 
 static void free_texts(void)
 {
-    struct text *texts[] = {&recording, &program, &verdict, &explanation, &drawing, &reduction};
+    struct text *texts[] = {&recording, &values, &program, &labels, &verdict, &explanation, &drawing, &reduction};
     for (size_t i = 0; i < sizeof texts / sizeof *texts; i++) {
         free(texts[i]->bytes);
         memset(texts[i], 0, sizeof *texts[i]);
@@ -108,7 +110,8 @@ int main(int argc, char **argv)
         assert(tsotest_dpi_events() == (is_judged ? 4 : 0));
         int saved = tsotest_dpi_save(argv[1]);
         if (is_judged && saved == 0)
-            assert(is_file(argv[1], ".json", whole[0]) && is_file(argv[1], ".litmus", whole[1]) && is_file(argv[1], ".verdict", whole[2]));
+            assert(is_file(argv[1], ".json", whole[0]) && is_file(argv[1], ".litmus", whole[1]) && is_file(argv[1], ".labels", whole[6])
+                   && is_file(argv[1], ".verdict", whole[2]));
         int empty = 0;
         for (int i = 0; i < TEXTS; i++) {
             const char *text = text_of_run(i);
