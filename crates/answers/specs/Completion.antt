@@ -19,7 +19,7 @@ pub record IsImpossible (v : Values) (answer : Answer) : Type 0 where
   pub refuted : ¬ AreAllowed v
   pub said : IsText Violation (codes "impossible" ++ 10 ∷ []) answer
 
--- a recording that completes the values, or that there is none, or that more states would have to be looked at
+-- a recording that completes the values, or that there is none, or `unfinished`, of which nothing is said
 abbrev pub IsCompletionAnswer : Values → Answer → Type 0
 IsCompletionAnswer v answer = IsCompleted v answer ⊎ IsImpossible v answer
     ⊎ IsText Unfinished (codes "unfinished" ++ 10 ∷ []) answer

@@ -5,6 +5,6 @@ use Rattle.verdicts.specs.declared.printed.Answer.{Answer}
 use Rattle.answers.specs.Completion.{IsCompletionAnswer}
 use Rattle.inputs.specs.Named.{OfValues}
 
--- the values of the named input are completed, or are impossible, or more states would have to be looked at
+-- the values of the named input are completed, or are impossible, or it is `unfinished`
 abbrev pub IsCompletedInput : (List ℕ → Option (List ℕ)) → CompleteOptions → Answer → Type 0
 IsCompletedInput inputs o answer = OfValues inputs (string_bytes o.file) (λ v. IsCompletionAnswer v answer)
