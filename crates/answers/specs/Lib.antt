@@ -5,3 +5,4 @@ pub mod Campaign
 pub mod Survey
 pub mod Outcomes
 pub mod Completion
+pub mod Histogram

@@ -3,6 +3,7 @@
 
 mod campaigns;
 mod completion_answers;
+mod histogram_answers;
 mod outcome_answers;
 mod reduced;
 mod rendering;
@@ -11,6 +12,7 @@ mod shown;
 
 pub use campaigns::{campaign_answer, survey_answer, trials_answer};
 pub use completion_answers::completion_answer;
+pub use histogram_answers::{live_histogram_answer, seeded_histogram_answer};
 pub use outcome_answers::{
     Condition, condition_answer, log_answer, met_answer, outcomes_answer, unfinished_answer,
 };

@@ -2,7 +2,7 @@
 use Rattle.std.specs.Prelude.{◌≡◌, ◌≢◌, ◌&&◌, ◌||◌, ℕ, Bool, List, Option, Some, None, IfSome, codes}
 use Rattle.std.specs.Prelude.{◌+◌, ◌==◌, [], ◌∷◌, ⊤, false, find, count_by, if◌then◌else◌, is_some, nat_lt, not, option_map, true}
 use Rattle.std.specs.Prelude.{unwrap_or}
-use Rattle.std.specs.Option.{option_map_or}
+use Rattle.std.specs.Option.{option_map_or, option_or}
 use Rattle.std.specs.List.{list_any}
 use Rattle.std.specs.Str.{bytes_eq}
 use Rattle.std.specs.Str.Parse.{digits_value, without_leading_plus}
@@ -14,7 +14,7 @@ use Rattle.machine.specs.declared.fault.Fault.TheVariants as fault
 use Rattle.command_line.specs.declared.options.Limits.{Limits}
 use Rattle.command_line.specs.declared.options.Misfit.{Misfit}
 use Rattle.command_line.specs.declared.options.Misfit.TheVariants.{EachWithShow, ReduceWithoutShow}
-use Rattle.command_line.specs.declared.options.Misfit.TheVariants.{TwoQuestions, UnseenWithoutObserved}
+use Rattle.command_line.specs.declared.options.Misfit.TheVariants.{RunsWithSteps, TwoQuestions, UnseenWithoutObserved}
 use Rattle.command_line.specs.declared.options.TheConstants.{DEFAULT_FAULT}
 use Rattle.command_line.specs.declared.table.Takes.{Takes}
 use Rattle.command_line.specs.declared.table.Takes.TheVariants as takes
@@ -39,6 +39,10 @@ size_of id rows = number_or 0 (one_of id rows)
 -- --show
 abbrev pub show_of : List Row → Option ℕ
 show_of rows = option_map number_written (one_of (codes "show") rows)
+
+-- --runs
+abbrev pub runs_of : List Row → Option ℕ
+runs_of rows = option_map number_written (one_of (codes "runs") rows)
 
 -- the name by which --fault asks for a fault
 abbrev pub fault_name : Fault → Text
@@ -105,11 +109,15 @@ question_misfit rows = if nat_lt 1 (questions rows) then Some TwoQuestions
     else (if is_given (codes "unseen") rows && (given (codes "observed") rows == 0) then Some UnseenWithoutObserved
     else None)
 
--- the options that don't go together: --each with --show, or --reduce without it, or those of outcomes
+-- the options of runs that don't go together: --runs with --steps
+abbrev pub runs_misfit : List Row → Option Misfit
+runs_misfit rows = if is_some (runs_of rows) && not (given (codes "steps") rows == 0) then Some RunsWithSteps else None
+
+-- the options that don't go together: --each with --show, or --reduce without it, or those of outcomes, or of runs
 abbrev pub misfit_of : List Row → Option Misfit
 misfit_of rows = if is_some (show_of rows) && is_given (codes "each") rows then Some EachWithShow
     else (if not (is_some (show_of rows)) && is_given (codes "reduce") rows then Some ReduceWithoutShow
-    else question_misfit rows)
+    else option_or (question_misfit rows) (runs_misfit rows))
 
 -- the entry, where there is one, is a number of 64 bits
 abbrev pub HasNumber : Text → List Row → Type 0

@@ -28,11 +28,11 @@ use Rattle.command_line.specs.declared.options.OptionStop.TheVariants.{Clap, Ref
 use Rattle.command_line.specs.declared.options.OptionStop.TheVariants.{StandardInputTwice, Misfit, Refused}
 use Rattle.command_line.specs.declared.options.OptionStop.TheVariants.{OutOfMemory}
 use Rattle.command_line.specs.declared.options.TheConstants.{ATTEMPTS, BUFFER, DEFAULT_SEED, LIMIT, TRIALS}
-use Rattle.command_line.specs.declared.options.TheConstants.{STATES, WORKERS}
+use Rattle.command_line.specs.declared.options.TheConstants.{RUNS, STATES, WORKERS}
 use Rattle.command_line.specs.declared.values.Values.{Values}
 use Rattle.command_line.specs.Commands.{HaveNoMistake, command_of, program_app}
 use Rattle.command_line.specs.Entries.{HasEntries, machine_fault_of, misfit_of, names_standard_input_twice}
-use Rattle.command_line.specs.Entries.{number_of, number_or, show_of}
+use Rattle.command_line.specs.Entries.{number_of, number_or, runs_of, show_of}
 use Rattle.command_line.specs.Meanings.{asks_of_refusals, meaning_asked}
 use Rattle.clap.specs.Words.{all_of, one_of, subcommand_rows_of}
 use Rattle.clap.specs.declared.parser.matches.ArgMatches.{ArgMatches}
@@ -52,6 +52,10 @@ IsNumber id limits rows n = IsInRange limits.most (number_of id limits rows) n
 abbrev pub seed_of : List Row → ℕ
 seed_of rows = number_or DEFAULT_SEED (one_of (codes "seed") rows)
 
+-- how many runs are asked for, within the limits, if this is asked for
+abbrev pub AreRuns : Option ℕ → List Row → Type 0
+AreRuns runs rows = (runs ≡ runs_of rows) × IfSome runs (λ n. IsInRange RUNS.most (number_of (codes "runs") RUNS rows) n)
+
 -- each number, the fault and each flag is its entry, or else its default; none is refused
 pub record AreValuesAsked (v : Values) (rows : List Row) : Type 0 where
   pub shape : shape_asked rows ≡ option_map Ok v.shape
@@ -70,6 +74,7 @@ pub record AreValuesAsked (v : Values) (rows : List Row) : Type 0 where
   pub each : v.each ≡ is_given (codes "each") rows
   pub states : IsNumber (codes "states") STATES rows v.states
   pub unseen : v.unseen ≡ is_given (codes "unseen") rows
+  pub runs : AreRuns v.runs rows
 
 -- each option of run is its entry, or else its default
 pub record AreRunOptions (o : RunOptions) (rows : List Row) : Type 0 where
@@ -79,6 +84,7 @@ pub record AreRunOptions (o : RunOptions) (rows : List Row) : Type 0 where
   pub attempts : IsNumber (codes "attempts") ATTEMPTS rows o.attempts
   pub buffer : IsNumber (codes "buffer") BUFFER rows o.buffer
   pub fault : machine_fault_of rows ≡ Some o.fault
+  pub runs : AreRuns o.runs rows
 
 -- each option of judge is its entry, or else its default
 pub record AreJudgeOptions (o : JudgeOptions) (rows : List Row) : Type 0 where
@@ -104,6 +110,7 @@ pub record AreLiveOptions (o : LiveOptions) (rows : List Row) : Type 0 where
   pub program : first_of (codes "PROGRAM") rows ≡ Some (string_bytes o.program)
   pub buffer : IsNumber (codes "buffer") BUFFER rows o.buffer
   pub limit : IsNumber (codes "limit") LIMIT rows o.limit
+  pub runs : AreRuns o.runs rows
 
 -- the file is its entry
 abbrev pub AreFileOptions : FileOptions → List Row → Type 0

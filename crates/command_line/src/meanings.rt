@@ -65,6 +65,7 @@ K9   `--fault` is none of the six names (they are none, no-bypass, youngest-firs
 K10  `--show` is not below `--trials` (trials are numbered from 0)
 K11  `--show` is not below the number of recordings (recordings are numbered from 0)
 K12  `--states` is not from 1 to 4294967295 (it counts the states that are looked at)
+K13  `--runs` is not from 1 to 4294967295 (it counts runs, of which each later one has the next seed)
 ";
 
 /// Whether a name has a space.

@@ -101,6 +101,7 @@ fn run_options(
         attempts: values.attempts,
         buffer: values.buffer,
         fault: values.fault,
+        runs: values.runs,
     })
 }
 
@@ -207,6 +208,7 @@ pub fn named_options(
             program: given(alloc, matches, "PROGRAM")?,
             buffer: values.buffer,
             limit: values.limit,
+            runs: values.runs,
         })),
         "replay" => Ok(Options::Replay(FileOptions {
             file: given(alloc, matches, "FILE")?,

@@ -62,6 +62,13 @@ pub const STATES: Limits = Limits {
     refusal: OptionRefusal::States,
 };
 
+/// How many runs a histogram counts.
+pub const RUNS: Limits = Limits {
+    most: 4_294_967_295,
+    default: 1,
+    refusal: OptionRefusal::Runs,
+};
+
 /// The seed where no option says it.
 pub const DEFAULT_SEED: u64 = 0;
 
@@ -99,8 +106,8 @@ pub enum Options {
     Complete(CompleteOptions),
 }
 
-/// What `run` is asked: the names of the program and of the script, and the machine and the steps of
-/// a random run.
+/// What `run` is asked: the names of the program and of the script, the machine and the steps of a random run, and how
+/// many runs are counted.
 #[derive(Debug, Drop)]
 pub struct RunOptions {
     /// The name of the program.
@@ -115,6 +122,8 @@ pub struct RunOptions {
     pub buffer: usize,
     /// What is wrong with the machine.
     pub fault: Fault,
+    /// How many random runs a histogram counts, 1 to 2^32 - 1; none asks for one run and its recording.
+    pub runs: Option<usize>,
 }
 
 /// What `judge` is asked: the name of the recording, and how many workers judge it at most.
@@ -204,8 +213,8 @@ pub struct MergeOptions {
     pub files: Vec<String>,
 }
 
-/// What `live` is asked: the name of the program, the capacity of each buffer, and how many steps
-/// may be taken.
+/// What `live` is asked: the name of the program, the capacity of each buffer, how many steps may be taken, and how many
+/// runs are counted.
 #[derive(Debug, Drop)]
 pub struct LiveOptions {
     /// The name of the program.
@@ -214,6 +223,8 @@ pub struct LiveOptions {
     pub buffer: usize,
     /// How many steps may be taken, 1 to `MAX_STEPS`.
     pub limit: usize,
+    /// How many runs a histogram counts, 1 to 2^32 - 1; none asks for one run and its recording.
+    pub runs: Option<usize>,
 }
 
 /// What `outcomes` is asked: the name of the program, what is asked of its outcomes, and how many states are looked at.
@@ -271,6 +282,8 @@ pub enum OptionRefusal {
     Show,
     /// K12: the number of states is not from 1 to 2^32 - 1.
     States,
+    /// K13: the number of runs is not from 1 to 2^32 - 1.
+    Runs,
 }
 
 /// Options that don't go together.
@@ -284,6 +297,8 @@ pub enum Misfit {
     TwoQuestions,
     /// `--unseen` belongs to `--observed`.
     UnseenWithoutObserved,
+    /// `--runs` counts random runs, and `--steps` names the steps of one.
+    RunsWithSteps,
 }
 
 impl Display for Misfit {
@@ -306,6 +321,9 @@ impl Display for Misfit {
                 f.write_str(
                     "error: the following required arguments were not provided:\n  --observed <FILE>",
                 )?;
+            }
+            Misfit::RunsWithSteps => {
+                f.write_str("error: the argument '--runs <N>' cannot be used with '--steps <FILE>'")?;
             }
         }
         f.write_str("\n\nFor more information, try '--help'.")

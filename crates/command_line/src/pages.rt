@@ -58,6 +58,11 @@ writes in memory order, and all initial values where one is not 0 or a `cas` fai
 it comes the verdict, as `judge` prints it; of a run that is not complete only `unfinished`
 is printed.
 
+With `--runs N` the outcomes of N runs are counted instead, each with the next seed: a line
+for each outcome, as litmus7 prints it, the most frequent first, with how often it occurred,
+`*>` where one of its runs is a violation and else `:>`, and the seed of the first of its
+runs; then how many runs are unfinished, if some are. `outcomes --observed` takes the text.
+
 A machine may be wrong in one way, and may then record a violation: with `no-bypass` loads
 don't look in their core's buffer, with `youngest-first` the youngest store drains first,
 with `open-fence` fences and with `early-rmw` read-modify-writes don't wait for an empty
@@ -68,9 +73,11 @@ buffer, and with `stale-share` other cores keep old copies of a line that is wri
   2  the run is complete, and its recording is a violation of TSO: only with a fault
   3  a text, a number or a fault's name was refused, as the line `refused: ..` says
   4  the run is unfinished: an operation or a buffered store is left
+  With `--runs`: 2 where a run is a violation, else 4 where one is unfinished, else 0
 
-Example:
-  tsotest run store_buffering.litmus --steps store_buffering.steps",
+Examples:
+  tsotest run store_buffering.litmus --steps store_buffering.steps
+  tsotest run store_buffering.litmus --runs 1000",
 };
 
 const JUDGE: Page = Page {
@@ -132,15 +139,18 @@ const LIVE: Page = Page {
 
 The machine is that of `run`. A thread for each core, one for the store buffers and one for
 the caches take its steps under one lock, until the program is complete or the limit of
-steps is reached. Two runs may differ.",
+steps is reached. Two runs may differ. With `--runs N` the outcomes of N such runs are
+counted instead, as by `run --runs`; a line ends in the number of the first of its runs.",
     statuses: "Exit status:
   0  the run is complete, and TSO allows its recording
   1  an error of the command line, a file, memory or a thread, as standard error says
   3  a text or a number was refused, as the line `refused: ..` says
-  4  the run is unfinished: the limit of steps was reached before its end
+  4  the run is unfinished: the limit of steps was reached before its end; with `--runs`,
+     at least one is
 
-Example:
-  tsotest live store_buffering.litmus",
+Examples:
+  tsotest live store_buffering.litmus
+  tsotest live store_buffering.litmus --runs 1000",
 };
 
 const REPLAY: Page = Page {

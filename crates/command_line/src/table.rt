@@ -97,6 +97,13 @@ const STEPS: ArgumentRow = ArgumentRow {
     help: "The script: a file of at most 1000000 lines, or - for standard input; without it steps are random",
 };
 
+const RUNS: ArgumentRow = ArgumentRow {
+    name: "runs",
+    takes: Takes::Number,
+    value: "N",
+    help: "Counts the outcomes of N runs, from 1 to 4294967295, instead of showing one",
+};
+
 const SEED: ArgumentRow = ArgumentRow {
     name: "seed",
     takes: Takes::Number,
@@ -276,7 +283,7 @@ const SHOW_ITEMS: ArgumentRow = ArgumentRow {
 pub const COMMANDS: &[CommandRow] = &[
     CommandRow {
         name: "run",
-        arguments: &[PROGRAM, STEPS, SEED, ATTEMPTS, BUFFER, FAULT, WORDS],
+        arguments: &[PROGRAM, STEPS, SEED, ATTEMPTS, BUFFER, FAULT, RUNS, WORDS],
     },
     CommandRow {
         name: "judge",
@@ -291,7 +298,7 @@ pub const COMMANDS: &[CommandRow] = &[
     },
     CommandRow {
         name: "live",
-        arguments: &[PROGRAM, BUFFER, LIMIT, WORDS],
+        arguments: &[PROGRAM, BUFFER, LIMIT, RUNS, WORDS],
     },
     CommandRow {
         name: "replay",

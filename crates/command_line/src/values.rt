@@ -1,16 +1,17 @@
-//! The numbers, the fault and the flags that entries ask for, and the first refusal, K1 to K12.
+//! The numbers, the fault and the flags that entries ask for, and the first refusal, K1 to K13.
 ghost use Rattle.std.specs.Prelude.{◌≡◌, ◌<◌, IfOk, IfSome, Ok, Some, codes, option_map, true};
 ghost use Rattle.std.specs.Result.{result_err};
 ghost use Rattle.clap.specs.Words.{found_of, rows_of};
 ghost use Rattle.command_line.specs.Entries.{AreEntries, HasNumber, machine_fault_of, number_of, show_of};
-ghost use Rattle.command_line.specs.Options.{AreValuesAsked, IsNumber};
+ghost use Rattle.command_line.specs.declared.options.TheConstants.{RUNS};
+ghost use Rattle.command_line.specs.Options.{AreRuns, AreValuesAsked, IsNumber};
 ghost use Rattle.command_line.specs.Refusals.{fault_refusal, number_refusal, refusal_of, refusal_of_show};
 ghost use Rattle.command_line.specs.Refusals.{shape_asked, sizes_refusal};
 
 use crate::entries::{fault_named, flag, maybe_text, number, number_or};
 use crate::options::{
-    ATTEMPTS, BUFFER, DEFAULT_FAULT, DEFAULT_SEED, LIMIT, Limits, OptionRefusal, STATES, TRIALS,
-    WORKERS,
+    ATTEMPTS, BUFFER, DEFAULT_FAULT, DEFAULT_SEED, LIMIT, Limits, OptionRefusal, RUNS, STATES,
+    TRIALS, WORKERS,
 };
 use clap::ArgMatches;
 use machine::Fault;
@@ -34,6 +35,7 @@ pub struct Values {
     pub each: bool,
     pub states: usize,
     pub unseen: bool,
+    pub runs: Option<usize>,
 }
 
 /// The number of an option, where it is within its limits.
@@ -100,7 +102,20 @@ fn show(
     }
 }
 
-/// What the entries ask for, or the first refusal, K1 to K12.
+/// How many runs are counted, where this is asked for.
+fn runs(matches: &ArgMatches<'_>) -> Result<Option<usize>, OptionRefusal>
+    requires { HasNumber (codes "runs") (rows_of (found_of matches.now)) }
+    ensures ok { IfOk result (λ runs. AreRuns runs (rows_of (found_of matches.now))) }
+    ensures err { result_err result ≡ number_refusal (codes "runs") RUNS (rows_of (found_of matches.now)) }
+{
+    let asked = limited(matches, "runs", RUNS)?;
+    match number(matches, "runs") {
+        Some(_) => Ok(Some(asked)),
+        None => Ok(None),
+    }
+}
+
+/// What the entries ask for, or the first refusal, K1 to K13.
 pub fn read_values(matches: &ArgMatches<'_>) -> Result<Values, OptionRefusal>
     requires { AreEntries (rows_of (found_of matches.now)) }
     ensures ok { IfOk result (λ n. AreValuesAsked n (rows_of (found_of matches.now))) }
@@ -115,6 +130,7 @@ pub fn read_values(matches: &ArgMatches<'_>) -> Result<Values, OptionRefusal>
     let fault = fault(matches)?;
     let show = show(matches, shape.is_some(), trials)?;
     let states = limited(matches, "states", STATES)?;
+    let runs = runs(matches)?;
     Ok(Values {
         shape,
         seed: number_or(matches, "seed", DEFAULT_SEED),
@@ -131,5 +147,6 @@ pub fn read_values(matches: &ArgMatches<'_>) -> Result<Values, OptionRefusal>
         each: flag(matches, "each"),
         states,
         unseen: flag(matches, "unseen"),
+        runs,
     })
 }

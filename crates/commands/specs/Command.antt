@@ -29,9 +29,14 @@ abbrev pub render_names : ExplainOptions → List (List ℕ)
 render_names o = string_bytes o.file ∷ maybe_name (option_map string_bytes o.program)
     ++ maybe_name (option_map string_bytes o.labels)
 
+-- the name of the script of a run, unless runs are counted
+abbrev pub script_name : Option ℕ → Option (List ℕ) → Option (List ℕ)
+script_name None name = name
+script_name (Some runs) name = None
+
 -- the names of the inputs of a command, in the order in which they are opened
 abbrev pub input_names : Options → List (List ℕ)
-input_names (Run o) = string_bytes o.program ∷ maybe_name (option_map string_bytes o.steps)
+input_names (Run o) = string_bytes o.program ∷ maybe_name (script_name o.runs (option_map string_bytes o.steps))
 input_names (Judge o) = string_bytes o.file ∷ []
 input_names (Trials o) = []
 input_names (Live o) = string_bytes o.program ∷ []
@@ -63,7 +68,7 @@ IsAnswerTo inputs (Complete o) answer = IsCompletedInput inputs o answer
 
 -- why a command with these options and inputs stops
 abbrev pub IsCommandStop : (List ℕ → Option (List ℕ)) → Options → CommandStop → Type 0
-IsCommandStop inputs (Run o) stop = IsRunStop inputs o (option_map string_bytes o.steps) stop
+IsCommandStop inputs (Run o) stop = IsRunStop inputs o (script_name o.runs (option_map string_bytes o.steps)) stop
 IsCommandStop inputs (Judge o) (Refused refusal) = ⊥
 IsCommandStop inputs (Judge o) (Failed error) = IsJudgeError inputs o error
 IsCommandStop inputs (Trials o) stop = stop ≡ Failed OutOfMemory

@@ -2,10 +2,13 @@
 use Rattle.std.specs.Prelude.{◌≡◌, ◌⊎◌, ℕ, List, Option, Some, None, Ok, length, option_map, string_bytes, ⊤}
 use Rattle.verdicts.specs.declared.printed.Answer.{Answer}
 use Rattle.answers.specs.Campaign.{IsCampaignAnswer, IsShownAnswer}
+use Rattle.answers.specs.Histogram.{IsLiveHistogramAnswer, IsSeededHistogramAnswer}
 use Rattle.answers.specs.Run.{IsRunAnswer, IsSeededAnswer, script_state}
 use Rattle.command_line.specs.declared.options.LiveOptions.{LiveOptions}
 use Rattle.command_line.specs.declared.options.RunOptions.{RunOptions}
 use Rattle.command_line.specs.declared.options.TrialsOptions.{TrialsOptions}
+use Rattle.histograms.specs.declared.live_runs.LiveRuns.{LiveRuns}
+use Rattle.histograms.specs.declared.seeded_runs.SeededRuns.{SeededRuns}
 use Rattle.program.specs.Parts.{Parts}
 use Rattle.machine.specs.declared.fault.Fault.TheVariants as fault
 use Rattle.machine.specs.declared.step.Step.{Step}
@@ -30,10 +33,19 @@ abbrev pub IsRunOf : (List ℕ → Option (List ℕ)) → RunOptions → Parts �
 IsRunOf inputs o program (Some name) answer = IsScriptAnswer inputs o program name answer
 IsRunOf inputs o program None answer = IsSeededAnswer program o.buffer o.fault o.seed o.attempts answer
 
+-- the random runs that are counted
+abbrev pub seeded_runs : RunOptions → ℕ → SeededRuns
+seeded_runs o n = record { seed = o.seed; runs = n; attempts = o.attempts; buffer = o.buffer; fault = o.fault }
+
+-- the answer of one run, or the histogram of as many as are counted
+abbrev pub IsRunsAnswer : (List ℕ → Option (List ℕ)) → RunOptions → Parts → Option ℕ → Answer → Type 0
+IsRunsAnswer inputs o program None answer = IsRunOf inputs o program (option_map string_bytes o.steps) answer
+IsRunsAnswer inputs o program (Some n) answer = IsSeededHistogramAnswer program (seeded_runs o n) answer
+
 -- the answer of run
 abbrev pub IsRun : (List ℕ → Option (List ℕ)) → RunOptions → Answer → Type 0
 IsRun inputs o answer = OfProgram inputs (string_bytes o.program)
-    (λ program. IsRunOf inputs o program (option_map string_bytes o.steps) answer)
+    (λ program. IsRunsAnswer inputs o program o.runs answer)
 
 -- the script of this name is refused for the program, or isn't read
 abbrev pub IsScriptStop : (List ℕ → Option (List ℕ)) → List ℕ → CommandStop → Parts → Type 0
@@ -47,16 +59,26 @@ IsRunStop inputs o (Some name) stop = IsProgramStop inputs (string_bytes o.progr
     ⊎ OfProgram inputs (string_bytes o.program) (IsScriptStop inputs name stop)
 IsRunStop inputs o None stop = IsProgramStop inputs (string_bytes o.program) stop
 
--- the answer of the named program, and of the steps that threads chose: they come to an end, or are
--- as many as may be
-pub record IsLive (inputs : List ℕ → Option (List ℕ)) (o : LiveOptions) (answer : Answer) : Type 0 where
-  pub program : Parts
-  pub at : IsProgramAt inputs (string_bytes o.program) program
+-- the answer of a program, and of the steps that threads chose: they come to an end, or are as many as may be
+pub record IsOneLive (o : LiveOptions) (program : Parts) (answer : Answer) : Type 0 where
   pub steps : List Step
   pub state : State
   pub taken : all_taken program.cores o.buffer fault.None (begun program) steps ≡ Ok state
   pub ended : IsComplete program.cores state ⊎ (length steps ≡ o.limit)
   pub answered : IsRunAnswer fault.None program state answer
+
+-- the runs by threads that are counted
+abbrev pub live_runs : LiveOptions → ℕ → LiveRuns
+live_runs o n = record { runs = n; buffer = o.buffer; limit = o.limit }
+
+-- the answer of one run by threads, or the histogram of as many as are counted
+abbrev pub IsLiveAnswer : LiveOptions → Parts → Option ℕ → Answer → Type 0
+IsLiveAnswer o program None answer = IsOneLive o program answer
+IsLiveAnswer o program (Some n) answer = IsLiveHistogramAnswer program (live_runs o n) answer
+
+-- the answer of live
+abbrev pub IsLive : (List ℕ → Option (List ℕ)) → LiveOptions → Answer → Type 0
+IsLive inputs o answer = OfProgram inputs (string_bytes o.program) (λ program. IsLiveAnswer o program o.runs answer)
 
 -- the named program is refused or isn't read, or it is read and threads fail
 abbrev pub IsLiveStop : (List ℕ → Option (List ℕ)) → LiveOptions → CommandStop → Type 0

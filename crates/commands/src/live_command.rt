@@ -1,20 +1,50 @@
 //! The command `live`.
 ghost use Rattle.std.specs.Prelude.{◌∷◌, [], IfErr, IfOk, string_bytes};
 ghost use Rattle.inputs.specs.Inputs.{CanRead, ReadsNamed};
-ghost use Rattle.commands.specs.Run.{IsLive, IsLiveStop};
+ghost use Rattle.live.specs.Driven.{IsDriveError};
+ghost use Rattle.commands.specs.Run.{IsLive, IsLiveAnswer, IsLiveStop};
 
-use answers::finished;
+use answers::{finished, live_histogram_answer};
 use command_line::LiveOptions;
 use common::OpenGate;
 use devices::Host;
+use histograms::LiveRuns;
 use inputs::{CommandError, CommandStop, program_at};
 use live::{LiveError, drive};
+use program::Program;
 use report::Answer;
 use std::alloc::Global;
 use std::sync::Wait;
 use std::thread::Threads;
 
-/// Runs the program of a named input by threads.
+/// Runs a program by threads, or counts such runs.
+fn lived<R: Threads + Wait + Sync>(
+    rt: &R,
+    alloc: Global,
+    program: Program,
+    options: &LiveOptions,
+) -> Result<Answer, LiveError>
+    ensures ok { IfOk result (IsLiveAnswer options.now program options.now.runs) }
+    ensures err { IfErr result IsDriveError }
+{
+    let (buffer, limit) = (options.buffer, options.limit);
+    match options.runs {
+        Some(runs) => {
+            let runs = LiveRuns {
+                runs,
+                buffer,
+                limit,
+            };
+            live_histogram_answer(rt, alloc, &program, &runs)
+        }
+        None => {
+            let traced = drive(rt, alloc, program, buffer, limit, &OpenGate)?;
+            Ok(finished(alloc, traced.into_machine())?)
+        }
+    }
+}
+
+/// Runs the program of a named input by threads, or counts such runs.
 pub fn live_command<R: Threads + Wait + Sync, H: Host>(
     rt: &R,
     alloc: Global,
@@ -27,12 +57,11 @@ pub fn live_command<R: Threads + Wait + Sync, H: Host>(
     ensures reads { ReadsNamed (string_bytes options.now.program ∷ []) (H.log host.old) (H.log host.new) result }
 {
     let program = program_at(alloc, host, options.program.as_str())?;
-    let traced = match drive(rt, alloc, program, options.buffer, options.limit, &OpenGate) {
-        Ok(traced) => traced,
-        Err(LiveError::NoThread) => return Err(CommandStop::Failed(CommandError::NoThread)),
-        Err(LiveError::Stranger) => return Err(CommandStop::Failed(CommandError::Stranger)),
-        Err(LiveError::OutOfMemory) => return Err(CommandStop::Failed(CommandError::OutOfMemory)),
+    match lived(rt, alloc, program, options) {
+        Ok(answer) => Ok(answer),
+        Err(LiveError::NoThread) => Err(CommandStop::Failed(CommandError::NoThread)),
+        Err(LiveError::Stranger) => Err(CommandStop::Failed(CommandError::Stranger)),
+        Err(LiveError::OutOfMemory) => Err(CommandStop::Failed(CommandError::OutOfMemory)),
         Err(LiveError::Blocked(_) | LiveError::TraceFull) => unreachable!(),
-    };
-    Ok(finished(alloc, traced.into_machine())?)
+    }
 }

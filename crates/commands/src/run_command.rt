@@ -1,13 +1,14 @@
 //! The command `run`.
 ghost use Rattle.std.specs.Prelude.{◌∷◌, [], IfErr, IfOk, option_map, string_bytes};
 ghost use Rattle.inputs.specs.Inputs.{CanRead, ReadsNamed};
-ghost use Rattle.commands.specs.Command.{input_names};
+ghost use Rattle.commands.specs.Command.{input_names, script_name};
 ghost use Rattle.command_line.specs.declared.options.Options.{Options};
 ghost use Rattle.commands.specs.Run.{IsRun, IsRunStop, IsScriptAnswer, IsScriptStop};
 
-use answers::{script_answer, seeded_answer};
+use answers::{script_answer, seeded_answer, seeded_histogram_answer};
 use command_line::RunOptions;
 use devices::Host;
+use histograms::SeededRuns;
 use inputs::{CommandError, CommandStop, line_refusal, program_at, step_refusal_name, text_at};
 use machine::{StepsError, parse_steps};
 use program::Program;
@@ -43,8 +44,8 @@ fn script_run<H: Host>(
     }
 }
 
-/// Runs the named program by the named script, or else by random steps; the program is read before the
-/// script is opened.
+/// Runs the named program by the named script, or else by random steps, or counts random runs; the program is read
+/// before the script is opened.
 pub fn run_command<H: Host>(
     alloc: Global,
     options: &RunOptions,
@@ -53,10 +54,24 @@ pub fn run_command<H: Host>(
     requires { CanRead (H.log host.old).tally }
     ensures ok { IfOk result (IsRun (H.bytes host.old) options.now) }
     ensures err { IfErr result
-        (IsRunStop (H.bytes host.old) options.now (option_map string_bytes options.now.steps)) }
+        (IsRunStop (H.bytes host.old) options.now
+        (script_name options.now.runs (option_map string_bytes options.now.steps))) }
     ensures reads { ReadsNamed (input_names (Options.Run options.now)) (H.log host.old) (H.log host.new) result }
 {
     let program = program_at(alloc, host, options.program.as_str())?;
+    if let Some(runs) = options.runs {
+        return Ok(seeded_histogram_answer(
+            alloc,
+            &program,
+            &SeededRuns {
+                seed: options.seed,
+                runs,
+                attempts: options.attempts,
+                buffer: options.buffer,
+                fault: options.fault,
+            },
+        )?);
+    }
     match &options.steps {
         Some(name) => script_run(alloc, program, options, name.as_str(), host),
         None => Ok(seeded_answer(

@@ -1,25 +1,20 @@
 -- The values that addresses end with.
-use Rattle.std.proofs.Common.{◌≡◌, ◌≤◌, ◌<◌, ◌-◌, ◌==◌, inl, inr, ℕ, zero, suc, false, Option, Some, None, List, [], ◌∷◌, length, get_or, slice_get, arith, refl}
+use Rattle.std.proofs.Common.{◌≡◌, ◌≤◌, ◌<◌, ◌-◌, inl, inr, ℕ, Option, Some, None, List, length, get_or, arith}
 use Rattle.std.proofs.Common.{sym, ap, ◌∙◌}
 use Rattle.std.proofs.lemmas.Bool.{cases_lt, cases_eq}
 use Rattle.std.proofs.lemmas.List.{get_or_past}
-use Rattle.std.proofs.lemmas.Option.{slice_get-get_or}
 use Rattle.recording.specs.Event.{value_written}
-use Rattle.recording.specs.Execution.{Execution, event_at, write_list, initial_value}
+use Rattle.recording.specs.Execution.{Execution, event_at, write_list}
 use Rattle.recording.specs.Execution.{Writes}
 use Rattle.recording.specs.EventLaws.{Writes-event}
 use Rattle.recording.specs.Order.{place, times, Before}
 use Rattle.recording.specs.OrderLaws.{place_in, place_one}
 use Rattle.recording.specs.PlaceLaws.{times_at, place_at}
 use Rattle.recording.specs.Tso.{IsTsoOrder, IsWellFormed}
-use Rattle.values.specs.Final.{value_by, final_value}
+use Rattle.values.specs.Final.{final_value}
+use Rattle.values.specs.FinalLaws.{final_unwritten, final_written}
 use Rattle.values.specs.Values.{Values}
 use Rattle.completion.proofs.Covers.{IsCurrent}
-
--- a list that is not empty has something
-pub not_empty : (n : ℕ) → (n == 0) ≡ false → 0 < n
-not_empty zero h = absurd cc
-not_empty (suc n) h = omega arith
 
 -- nothing is known past the end
 pub known_past : (l : List (Option ℕ)) (a n : ℕ) → length l ≤ a → get_or l a None ≡ Some n → 1 ≤ 0
@@ -27,28 +22,6 @@ known_past l a n past known =
     let none : get_or l a None ≡ None = get_or_past l a None past in
     let clash : None ≡ Some n = sym none ∙ known in
     absurd cc
-
--- an address that is never written keeps its value
-pub final_unwritten : (x : Execution) (a : ℕ) → length (write_list x a) ≡ 0 → final_value x a ≡ initial_value x a
-final_unwritten x a h = go (write_list x a) refl h
-  where
-    go : (l : List ℕ) → write_list x a ≡ l → length l ≡ 0 → final_value x a ≡ initial_value x a
-    go [] is h = ap (λ (k : List ℕ). value_by x a (slice_get k (length k - 1))) is
-    go (w ∷ l) is h = absurd (omega (arith, h))
-
--- another ends with what its last write has written
-pub final_written : (x : Execution) (a : ℕ) → 0 < length (write_list x a)
-    → final_value x a ≡ value_written (event_at x (get_or (write_list x a) (length (write_list x a) - 1) 0))
-final_written x a h =
-    ap (value_by x a) (slice_get-get_or (write_list x a) (length (write_list x a) - 1) 0 (omega (arith, h)))
-
--- one that is not there has 0
-pub final_past : (x : Execution) (a : ℕ) → length x.initial ≤ a → length x.initial ≡ length x.write_lists
-    → final_value x a ≡ 0
-unfolding write_list
-final_past x a past size =
-    final_unwritten x a (ap (λ (l : List ℕ). length l) (get_or_past x.write_lists a [] (omega (arith, past, size))))
-    ∙ get_or_past x.initial a 0 past
 
 -- what memory has after all events is what addresses end with
 pub current_final : (vs : Values) (x : Execution) (m : List ℕ) → IsTsoOrder x m → IsWellFormed x → (a v k : ℕ)

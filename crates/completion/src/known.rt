@@ -1,14 +1,13 @@
 //! What is known beside values: sources, and the values that addresses end with.
 
 ghost use Rattle.std.specs.Prelude.{◌≡◌, ◌<◌, ℕ, IsTrue, Option, Some, length};
-ghost use Rattle.recording.specs.Event.{value_written};
-ghost use Rattle.recording.specs.Execution.{event_at, source_of};
+ghost use Rattle.recording.specs.Execution.{source_of};
 ghost use Rattle.values.specs.Final.{final_value};
 ghost use Rattle.values.specs.Values.{known_final, known_source};
 
-use common::{Addr, EventId};
+use common::EventId;
 use recording::Recording;
-use values::Values;
+use values::{Values, final_value};
 
 /// The source of the event at an index; none past the end.
 #[tactic(auto, using(recording::specs::EventLaws::event_past))]
@@ -36,33 +35,6 @@ pub(crate) fn keeps_sources(values: &Values, recording: &Recording) -> bool
         }
     }
     true
-}
-
-/// The value that a write has written; 0 past the last event.
-#[tactic(auto, using(recording::specs::EventLaws::event_past))]
-fn value_written(recording: &Recording, write: EventId) -> u32
-    ensures { result ≡ value_written (event_at recording.now write) }
-{
-    match recording.event(write) {
-        Some((_, event)) => event.value_written(),
-        None => 0,
-    }
-}
-
-/// The value that an address ends with.
-fn final_value(recording: &Recording, address: usize) -> u32
-    ensures { result ≡ final_value recording.now address }
-{
-    recording.sound();
-    let init = recording.init();
-    if address >= init.len() {
-        return 0;
-    }
-    let list = recording.write_list(address as Addr);
-    if list.is_empty() {
-        return init[address];
-    }
-    value_written(recording, list[list.len() - 1])
 }
 
 /// Whether each value that an address is known to end with is that of the recording.

@@ -59,6 +59,7 @@ fn option_refusal_name(refusal: OptionRefusal) -> &'static str
         OptionRefusal::Fault => "K9",
         OptionRefusal::Show => "K10",
         OptionRefusal::States => "K12",
+        OptionRefusal::Runs => "K13",
     }
 }
 

@@ -13,6 +13,13 @@ use Rattle.outcome_texts.specs.ObservedLine.{is_blank, is_colon, is_equals, said
 
 -- Parts of a line
 
+-- what stands before a `#`, which begins a comment
+abbrev pub is_plain_byte : ℕ → Bool
+is_plain_byte b = not (b == 35)
+
+abbrev pub uncommented : List ℕ → List ℕ
+uncommented line = take (prefix_len is_plain_byte line) line
+
 -- how many blanks come first
 abbrev pub blanks : List ℕ → ℕ
 blanks text = prefix_len is_blank text
@@ -97,9 +104,13 @@ words_say p text words =
     if is_silent text words then Silent
     else said_of (take (count_len text) text) words (said_by p Needed words)
 
+-- what a line says, by what stands on it after blanks
+abbrev pub said_after_blanks : Parts → List ℕ → LineSays
+said_after_blanks p text = words_say p text (words_of (after_count text))
+
 -- what a line says
 abbrev pub line_says : Parts → List ℕ → LineSays
-line_says p line = words_say p (trimmed line) (words_of (after_count (trimmed line)))
+line_says p line = said_after_blanks p (trimmed (uncommented line))
 
 -- Logs
 

@@ -44,9 +44,13 @@ with_values line a [] memory = line
 with_values line a (name ∷ names) memory =
     with_values (with_value line name (slice_index memory a)) (suc a) names memory
 
+-- the items of an outcome
+abbrev pub items_text : Parts → Outcome → List ℕ
+items_text p o = with_values (with_cores [] 0 0 p.cores o.reads) 0 p.names o.memory
+
 -- the line of an outcome
 abbrev pub outcome_text : Parts → Outcome → List ℕ
-outcome_text p o = with_values (with_cores [] 0 0 p.cores o.reads) 0 p.names o.memory ++ 10 ∷ []
+outcome_text p o = items_text p o ++ 10 ∷ []
 
 -- how many outcomes there are, and a line for each
 abbrev pub outcomes_text : Parts → List Outcome → List ℕ

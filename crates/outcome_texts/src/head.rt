@@ -5,9 +5,21 @@ ghost use Rattle.std.specs.List.{prefix_len};
 ghost use Rattle.program.specs.Numbers.{is_digit};
 ghost use Rattle.outcome_texts.specs.ObservedLine.{is_blank};
 ghost use Rattle.outcome_texts.specs.Log.{after_count, after_mark, blanks, count_len, digits, is_counted, is_marked};
-ghost use Rattle.outcome_texts.specs.Log.{trimmed};
+ghost use Rattle.outcome_texts.specs.Log.{trimmed, uncommented};
 
 use crate::words::is_blank;
+
+/// What stands before a `#`, which begins a comment.
+pub(crate) fn uncommented(line: &[u8]) -> &[u8]
+    ensures { result.now ≡ uncommented line.now }
+{
+    for i in 0..line.len() {
+        if line[i] == b'#' {
+            return &line[..i];
+        }
+    }
+    line
+}
 
 /// How many blanks come first.
 fn blanks(text: &[u8]) -> usize

@@ -12,6 +12,7 @@ mod seen;
 mod text;
 mod words;
 
+pub use line::items_of;
 pub use log::log_says;
 pub use report::{Report, report_on};
 pub use saying::condition_of;

@@ -1,7 +1,7 @@
-//! The line of an outcome.
+//! The items of an outcome.
 
 ghost use Rattle.std.specs.Prelude.{◌≡◌, ◌+◌, ◌^◌, ◌<◌, IfOk, OnOk, length};
-ghost use Rattle.outcome_texts.specs.OutcomeText.{outcome_text, with_cores, with_reads, with_values};
+ghost use Rattle.outcome_texts.specs.OutcomeText.{items_text, with_cores, with_reads, with_values};
 
 use crate::pieces::{put_read, put_value};
 use common::{CoreId, OutOfMemory};
@@ -55,17 +55,16 @@ fn put_values(line: &mut Vec<u8>, program: &Program, memory: &[u32]) -> Result<(
     Ok(())
 }
 
-/// The line of an outcome of a program. Fails only if out of memory.
-pub(crate) fn line_of(
+/// The items of an outcome of a program, as they stand on its line. Fails only if out of memory.
+pub fn items_of(
     alloc: Global,
     program: &Program,
     outcome: &Outcome,
 ) -> Result<Vec<u8>, OutOfMemory>
-    ensures { IfOk result (λ line. line.items ≡ outcome_text program.now outcome.now) }
+    ensures { IfOk result (λ items. items.items ≡ items_text program.now outcome.now) }
 {
-    let mut line = Vec::new(alloc);
-    put_cores(&mut line, program, outcome.reads())?;
-    put_values(&mut line, program, outcome.memory())?;
-    line.push(b'\n')?;
-    Ok(line)
+    let mut items = Vec::new(alloc);
+    put_cores(&mut items, program, outcome.reads())?;
+    put_values(&mut items, program, outcome.memory())?;
+    Ok(items)
 }

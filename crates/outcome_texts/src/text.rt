@@ -3,7 +3,7 @@
 ghost use Rattle.std.specs.Prelude.{◌≡◌, ◌++◌, IfOk, OnOk};
 ghost use Rattle.outcome_texts.specs.OutcomeText.{outcome_text, outcomes_text};
 
-use crate::line::line_of;
+use crate::line::items_of;
 use common::OutOfMemory;
 use outcomes::Outcome;
 use program::Program;
@@ -19,8 +19,10 @@ pub(crate) fn put_outcome(
 ) -> Result<(), OutOfMemory>
     ensures { OnOk result (out.new.items ≡ out.old.items ++ outcome_text program.now outcome.now) }
 {
-    let line = line_of(alloc, program, outcome)?;
-    put_text(out, &line)
+    let items = items_of(alloc, program, outcome)?;
+    put_text(out, &items)?;
+    out.push(b'\n')?;
+    Ok(())
 }
 
 /// How many outcomes of a program there are, and a line for each. Fails only if out of memory.

@@ -1,5 +1,5 @@
 -- The rules that values may break, one event at a time.
-use Rattle.std.proofs.Common.{◌≡◌, ◌<◌, ◌⊎◌, ◌↔◌, ◌∙◌, inl, inr, ℕ, Option, Some, None, nat_eq, IsTrue, arith, sym}
+use Rattle.std.proofs.Common.{◌≡◌, ◌<◌, ◌==◌, ◌⊎◌, ◌↔◌, ◌∙◌, inl, inr, ℕ, zero, suc, false, Option, Some, None, nat_eq, IsTrue, arith, sym}
 use Rattle.std.proofs.Common.{ap, subst}
 use Rattle.std.proofs.lemmas.Bool.{eqb-true, eq-eqb}
 use Rattle.recording.specs.declared.event.Event.{Event}
@@ -57,3 +57,8 @@ value_of_none v e a begins read reads from is was = (
       (sym was ∙ (eqb-true read begins t ∙ (is ∙ ap (initial_value (events_alone v)) same))),
   λ all. eq-eqb read begins (was ∙ (all a None reads from ∙ sym is)),
 )
+
+-- a list that is not empty has something
+pub not_empty : (n : ℕ) → (n == 0) ≡ false → 0 < n
+not_empty zero h = absurd cc
+not_empty (suc n) h = omega arith

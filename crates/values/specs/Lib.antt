@@ -1,3 +1,4 @@
 pub mod Final
 pub mod Values
 pub mod Refused
+pub mod FinalLaws

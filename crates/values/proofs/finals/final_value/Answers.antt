@@ -1,8 +1,9 @@
 use Rattle.std.proofs.Common.{◌<◌, ◌-◌, ℕ, List, length, get_or, arith, sym, ap, ◌∙◌}
 use Rattle.recording.specs.Event.{value_written}
 use Rattle.recording.specs.Execution.{event_at}
-use Rattle.completion.proofs.Finals.{not_empty, final_past, final_written}
-use Rattle.completion.proofs.known.final_value.Goals as goal
+use Rattle.values.specs.FinalLaws.{final_past, final_written}
+use Rattle.values.proofs.Known.{not_empty}
+use Rattle.values.proofs.finals.final_value.Goals as goal
 
 pub returns-then-address-init : goal.returns-then-address-init
 returns-then-address-init c = sym (final_past c.args.recording.now c.args.address

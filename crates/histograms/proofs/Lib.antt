@@ -1,0 +1,3 @@
+pub mod Counts
+pub mod Tallies
+pub mod Ranks

@@ -1,0 +1,4 @@
+pub mod Seen
+pub mod Histogram
+pub mod Runs
+pub mod Text
