@@ -1,3 +1,3 @@
 pub mod Counts
+pub mod Same
 pub mod Tallies
-pub mod Ranks

@@ -31,5 +31,5 @@ unfinished_text n = if n == 0 then [] else (codes "unfinished: " ++ decimal n) +
 -- how many outcomes there are, a line for each, and how many runs are unfinished
 abbrev pub histogram_text : Parts → Mark → Histogram → List ℕ
 histogram_text p mark h =
-    (codes "Histogram (" ++ decimal (length h.bars)) ++ (codes " states)\n"
-    ++ (flat_map (bar_text p mark) h.bars ++ unfinished_text h.unfinished))
+    (((codes "Histogram (" ++ decimal (length h.bars)) ++ codes " states)\n") ++ flat_map (bar_text p mark) h.bars)
+    ++ unfinished_text h.unfinished

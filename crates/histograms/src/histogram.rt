@@ -1,6 +1,6 @@
 //! How often runs come to each outcome.
 
-ghost use Rattle.std.specs.Prelude.{◌≡◌, ◌++◌, ◌∷◌, ◌^◌, ◌<◌, [], List, OnOk, Option, length};
+ghost use Rattle.std.specs.Prelude.{◌≡◌, ◌+◌, ◌++◌, ◌∷◌, ◌^◌, ◌<◌, [], List, OnOk, Option, Some, length, slice_get};
 ghost use Rattle.histograms.specs.declared.seen.Seen.{Seen};
 ghost use Rattle.histograms.specs.Histogram.{IsHistogram, IsRanked, has_violation, ranked};
 
@@ -55,11 +55,22 @@ impl Histogram {
         Ok(())
     }
 
-    /// The outcomes, each with the tally of its runs.
-    pub(crate) fn bars(&self) -> &IndexMap<Outcome, Tally>
-        ensures { result.now.entries ≡ self.now.bars }
+    /// How many outcomes there are.
+    pub fn len(&self) -> usize
+        ensures { result ≡ length self.now.bars }
     {
-        &self.bars
+        self.bars.len()
+    }
+
+    /// The outcome at an index, with the tally of its runs.
+    pub fn bar(&self, index: usize) -> (&Outcome, &Tally)
+        requires { index < length self.now.bars }
+        ensures { slice_get self.now.bars index ≡ Some (result.0.now, result.1.now) }
+    {
+        match self.bars.get_index(index) {
+            Some(bar) => bar,
+            None => unreachable!(),
+        }
     }
 
     /// How many runs are unfinished.
@@ -73,8 +84,8 @@ impl Histogram {
     pub fn has_violation(&self) -> bool
         ensures { result ≡ has_violation self.now }
     {
-        for tally in self.bars.values() {
-            if tally.violation {
+        for i in 0..self.len() {
+            if self.bar(i).1.violation {
                 return true;
             }
         }

@@ -36,7 +36,14 @@ fn live_run<R: Threads + Wait + Sync>(
     ensures ok { IfOk result (IsLiveRun program.now runs.now) }
     ensures err { IfErr result IsDriveError }
 {
-    let traced = drive(rt, alloc, program.copy(alloc)?, runs.buffer, runs.limit, &OpenGate)?;
+    let traced = drive(
+        rt,
+        alloc,
+        program.copy(alloc)?,
+        runs.buffer,
+        runs.limit,
+        &OpenGate,
+    )?;
     Ok(seen_of(alloc, traced.into_machine())?)
 }
 

@@ -25,7 +25,7 @@ fn is_violation(verdict: &Verdict) -> bool
 {
     match verdict {
         Verdict::Ordered(_) => false,
-        Verdict::Overlook(_, _) | Verdict::Cycle(_) => true,
+        Verdict::Overlook { .. } | Verdict::Cycle(_) => true,
     }
 }
 

@@ -1,6 +1,7 @@
 //! The text of a histogram.
 
-ghost use Rattle.std.specs.Prelude.{◌≡◌, ◌++◌, ◌∷◌, [], IfOk, OnOk};
+ghost use Rattle.std.specs.Prelude.{◌≡◌, ◌++◌, IfOk, OnOk};
+ghost use Rattle.std.specs.List.{flat_map};
 ghost use Rattle.histograms.specs.Text.{arrow, bar_text, histogram_text, mark_text, unfinished_text};
 
 use crate::histogram::Histogram;
@@ -33,7 +34,11 @@ fn put_mark(out: &mut Vec<u8>, mark: Mark, first: u64) -> Result<(), OutOfMemory
     ensures { OnOk result (out.new.items ≡ out.old.items ++ mark_text mark first) }
 {
     match mark {
-        Mark::Seed(base) => put_text_and_number(out, b" # seed ", base.wrapping_add(first) as usize),
+        Mark::Seed(base) => put_text_and_number(
+            out,
+            b" # seed ",
+            base.wrapping_add(first) as usize,
+        ),
         Mark::Run => put_text_and_number(out, b" # run ", first as usize),
     }
 }
@@ -56,6 +61,25 @@ fn bar_text(
     put_mark(&mut text, mark, tally.first)?;
     text.push(b'\n')?;
     Ok(text)
+}
+
+/// Adds the lines of all outcomes.
+fn put_bars(
+    out: &mut Vec<u8>,
+    alloc: Global,
+    program: &Program,
+    mark: Mark,
+    histogram: &Histogram,
+) -> Result<(), OutOfMemory>
+    ensures { OnOk result (out.new.items
+        ≡ out.old.items ++ flat_map (bar_text program.now mark) histogram.now.bars) }
+{
+    for i in 0..histogram.len() {
+        let (outcome, tally) = histogram.bar(i);
+        let line = bar_text(alloc, program, mark, outcome, tally)?;
+        put_text(out, &line)?;
+    }
+    Ok(())
 }
 
 /// Adds how many runs are unfinished, if some are.
@@ -81,12 +105,9 @@ pub fn histogram_text(
     ensures { IfOk result (λ text. text.items ≡ histogram_text program.now mark histogram.now) }
 {
     let mut out = Vec::new(alloc);
-    put_text_and_number(&mut out, b"Histogram (", histogram.bars().len())?;
+    put_text_and_number(&mut out, b"Histogram (", histogram.len())?;
     put_text(&mut out, b" states)\n")?;
-    for (outcome, tally) in histogram.bars().iter() {
-        let line = bar_text(alloc, program, mark, outcome, tally)?;
-        put_text(&mut out, &line)?;
-    }
+    put_bars(&mut out, alloc, program, mark, histogram)?;
     put_unfinished(&mut out, histogram.unfinished())?;
     Ok(out)
 }

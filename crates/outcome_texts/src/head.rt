@@ -5,20 +5,30 @@ ghost use Rattle.std.specs.List.{prefix_len};
 ghost use Rattle.program.specs.Numbers.{is_digit};
 ghost use Rattle.outcome_texts.specs.ObservedLine.{is_blank};
 ghost use Rattle.outcome_texts.specs.Log.{after_count, after_mark, blanks, count_len, digits, is_counted, is_marked};
-ghost use Rattle.outcome_texts.specs.Log.{trimmed, uncommented};
+ghost use Rattle.outcome_texts.specs.Log.{is_plain_byte, trimmed, uncommented};
 
 use crate::words::is_blank;
+
+/// How many bytes come before a `#`.
+fn plain_len(line: &[u8]) -> usize
+    ensures value { result ≡ prefix_len is_plain_byte line.now }
+    ensures within { result ≤ length line.now }
+{
+    let mut count = 0;
+    for b in line {
+        if *b == b'#' {
+            return count;
+        }
+        count += 1;
+    }
+    count
+}
 
 /// What stands before a `#`, which begins a comment.
 pub(crate) fn uncommented(line: &[u8]) -> &[u8]
     ensures { result.now ≡ uncommented line.now }
 {
-    for i in 0..line.len() {
-        if line[i] == b'#' {
-            return &line[..i];
-        }
-    }
-    line
+    &line[..plain_len(line)]
 }
 
 /// How many blanks come first.
