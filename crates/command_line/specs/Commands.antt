@@ -16,7 +16,8 @@ abbrev pub commands : List (Text × List (Text × Takes))
 commands = (
   codes "run",
   (codes "PROGRAM", Place) ∷ (codes "steps", Word) ∷ (codes "seed", Number)
-      ∷ (codes "attempts", Number) ∷ (codes "buffer", Number) ∷ (codes "fault", Word) ∷ (codes "words", Nothing) ∷ [],
+      ∷ (codes "attempts", Number) ∷ (codes "buffer", Number) ∷ (codes "fault", Word) ∷ (codes "runs", Number)
+      ∷ (codes "workers", Number) ∷ (codes "words", Nothing) ∷ [],
 )
     ∷ (codes "judge", (codes "FILE", Place) ∷ (codes "workers", Number) ∷ (codes "words", Nothing) ∷ [])
     ∷ (
@@ -26,7 +27,7 @@ commands = (
           ∷ (codes "buffer", Number) ∷ (codes "fault", Word) ∷ (codes "workers", Number)
           ∷ (codes "show", Number) ∷ (codes "reduce", Nothing) ∷ (codes "quiet", Nothing) ∷ (codes "words", Nothing) ∷ [],
     )
-    ∷ (codes "live", (codes "PROGRAM", Place) ∷ (codes "buffer", Number) ∷ (codes "limit", Number) ∷ (codes "words", Nothing) ∷ [])
+    ∷ (codes "live", (codes "PROGRAM", Place) ∷ (codes "buffer", Number) ∷ (codes "limit", Number) ∷ (codes "runs", Number) ∷ (codes "words", Nothing) ∷ [])
     ∷ (codes "replay", (codes "FILE", Place) ∷ (codes "words", Nothing) ∷ [])
     ∷ (codes "explain", (codes "FILE", Place) ∷ (codes "program", Word) ∷ (codes "labels", Word) ∷ (codes "words", Nothing) ∷ [])
     ∷ (codes "draw", (codes "FILE", Place) ∷ (codes "program", Word) ∷ (codes "labels", Word) ∷ (codes "all", Nothing) ∷ (codes "words", Nothing) ∷ [])

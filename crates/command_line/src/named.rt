@@ -102,6 +102,7 @@ fn run_options(
         buffer: values.buffer,
         fault: values.fault,
         runs: values.runs,
+        workers: values.workers,
     })
 }
 

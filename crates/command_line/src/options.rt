@@ -124,6 +124,8 @@ pub struct RunOptions {
     pub fault: Fault,
     /// How many random runs a histogram counts, 1 to 2^32 - 1; none asks for one run and its recording.
     pub runs: Option<usize>,
+    /// How many workers share the runs that are counted at most, 1 to `MAX_WORKERS`.
+    pub workers: usize,
 }
 
 /// What `judge` is asked: the name of the recording, and how many workers judge it at most.
@@ -323,7 +325,9 @@ impl Display for Misfit {
                 )?;
             }
             Misfit::RunsWithSteps => {
-                f.write_str("error: the argument '--runs <N>' cannot be used with '--steps <FILE>'")?;
+                f.write_str(
+                    "error: the argument '--runs <N>' cannot be used with '--steps <FILE>'",
+                )?;
             }
         }
         f.write_str("\n\nFor more information, try '--help'.")

@@ -283,7 +283,9 @@ const SHOW_ITEMS: ArgumentRow = ArgumentRow {
 pub const COMMANDS: &[CommandRow] = &[
     CommandRow {
         name: "run",
-        arguments: &[PROGRAM, STEPS, SEED, ATTEMPTS, BUFFER, FAULT, RUNS, WORDS],
+        arguments: &[
+            PROGRAM, STEPS, SEED, ATTEMPTS, BUFFER, FAULT, RUNS, WORKERS, WORDS,
+        ],
     },
     CommandRow {
         name: "judge",
