@@ -4,5 +4,6 @@ pub mod Reduced
 pub mod Campaign
 pub mod Survey
 pub mod Outcomes
+pub mod Circles
 pub mod Completion
 pub mod Histogram

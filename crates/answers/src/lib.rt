@@ -2,6 +2,7 @@
 #![tactic(auto)]
 
 mod campaigns;
+mod circles;
 mod completion_answers;
 mod histogram_answers;
 mod outcome_answers;

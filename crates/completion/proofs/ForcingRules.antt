@@ -13,9 +13,13 @@ use Rattle.recording.specs.Tso.{IsTsoOrder, IsLastVisible, Visible, Gives}
 use Rattle.values.specs.Values.{Values, IsCompletion, AreAllowed}
 use Rattle.values.specs.Refused.{events_alone}
 use Rattle.completion.specs.Search.{IsForced}
-use Rattle.completion.specs.Pairs.{IsSource, MayGive}
+use Rattle.completion.specs.Sources.{MayGive}
 use Rattle.completion.proofs.Alone.{reads_alone, writes_alone, alone_writes, value_alone, written_alone, initial_alone}
 use Rattle.completion.proofs.Alone.{order_alone, alone_order, kept_alone}
+
+-- whatever completes the values, this is the source of event e
+abbrev pub IsSource : Values → ℕ → Option ℕ → Type 0
+IsSource v e s = (x : Execution) (m : List ℕ) → IsCompletion v x m → source_of x e ≡ s
 
 -- Before is an order
 before_twice : (m : List ℕ) (e f g : ℕ) → Before m e f → Before m f g → Before m e g

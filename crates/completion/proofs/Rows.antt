@@ -5,11 +5,12 @@ use Rattle.std.proofs.Common.{length-set}
 use Rattle.std.proofs.Common.{take, drop}
 use Rattle.std.proofs.lemmas.List.{drop_all, take_all, append-nil}
 use Rattle.std.proofs.lemmas.Bool.{cases_eq, eqb-true}
-use Rattle.completion.proofs.ForcingRules.{between_rule}
 use Rattle.bitrow.specs.Bits.{is_in}
 use Rattle.values.specs.Values.{Values}
-use Rattle.completion.specs.Search.{IsForced}
-use Rattle.completion.specs.Pairs.{IsSquare, AreForced}
+use Rattle.completion.specs.Pairs.{IsSquare}
+use Rattle.completion.specs.declared.cause.Link.{Link}
+use Rattle.completion.specs.Inferred.{IsShown, IsLink, AreShown}
+use Rattle.completion.proofs.Shown.{shown_through, shown_by}
 
 -- rows stay square
 pub set_square : (rows : List (List Bool)) (e : ℕ) (row : List Bool) → IsSquare rows → length row ≡ length rows
@@ -26,14 +27,14 @@ set_square rows e row square size i inside =
           ∙ (square i there ∙ sym (length-set rows e row))
     ]
 
--- and their pairs forced
-pub set_forced : (v : Values) (rows : List (List Bool)) (e : ℕ) (row : List Bool) → e < length rows
-    → AreForced v rows → ((f : ℕ) → is_in row f ≡ true → IsForced v e f) → AreForced v (slice_set rows e row)
-set_forced v rows e row there old new i f has = elim (cases_eq i e) [
+-- and their pairs shown
+pub set_shown : (v : Values) (rows : List (List Bool)) (e : ℕ) (row : List Bool) → e < length rows
+    → AreShown v rows → ((f : ℕ) → is_in row f ≡ true → IsShown v e f) → AreShown v (slice_set rows e row)
+set_shown v rows e row there old new i f has = elim (cases_eq i e) [
   | inl one ↦
       let same : get_or (slice_set rows e row) i [] ≡ row =
       ap (λ (k : ℕ). get_or (slice_set rows e row) k []) one ∙ get_or-set_same rows e row [] there in
-      subst (λ (k : ℕ). IsForced v k f) (sym one) (new f (sym (ap (λ (l : List Bool). is_in l f) same) ∙ has))
+      subst (λ (k : ℕ). IsShown v k f) (sym one) (new f (sym (ap (λ (l : List Bool). is_in l f) same) ∙ has))
   | inr other ↦ old i f (sym (ap (λ (l : List Bool). is_in l f) (get_or-set_other rows e i row [] other)) ∙ has)
 ]
 
@@ -43,30 +44,30 @@ in_either true b h = inl refl
 in_either false b h = inr h
 
 -- a number more in a row
-pub put_forced : (v : Values) (rows : List (List Bool)) (e f : ℕ) (row : List Bool) → e < length rows
-    → ((j : ℕ) → is_in row j ≡ (is_in (get_or rows e []) j || (j == f))) → AreForced v rows → IsForced v e f
-    → AreForced v (slice_set rows e row)
-put_forced v rows e f row there numbers old new = set_forced v rows e row there old (λ j has.
+pub put_shown : (v : Values) (rows : List (List Bool)) (e f : ℕ) (row : List Bool) → e < length rows
+    → ((j : ℕ) → is_in row j ≡ (is_in (get_or rows e []) j || (j == f))) → AreShown v rows → IsShown v e f
+    → AreShown v (slice_set rows e row)
+put_shown v rows e f row there numbers old new = set_shown v rows e row there old (λ j has.
     elim (in_either (is_in (get_or rows e []) j) (j == f) (sym (numbers j) ∙ has)) [
       | inl before ↦ old e j before
-      | inr one ↦ subst (λ (k : ℕ). IsForced v e k) (sym (eqb-true j f one)) new
+      | inr one ↦ subst (λ (k : ℕ). IsShown v e k) (sym (eqb-true j f one)) new
     ])
 
 -- a row joined to that of an event before its middle
-pub join_forced : (v : Values) (rows : List (List Bool)) (e middle : ℕ) (later row : List Bool) → e < length rows
+pub join_shown : (v : Values) (rows : List (List Bool)) (e middle : ℕ) (later row : List Bool) → e < length rows
     → is_in (get_or rows e []) middle ≡ true
-    → ((j : ℕ) → is_in row j ≡ (is_in (get_or rows e []) j || is_in later j)) → AreForced v rows
-    → ((f : ℕ) → is_in later f ≡ true → IsForced v middle f) → AreForced v (slice_set rows e row)
-join_forced v rows e middle later row there before numbers old new = set_forced v rows e row there old (λ j has.
+    → ((j : ℕ) → is_in row j ≡ (is_in (get_or rows e []) j || is_in later j)) → AreShown v rows
+    → ((f : ℕ) → is_in later f ≡ true → IsShown v middle f) → AreShown v (slice_set rows e row)
+join_shown v rows e middle later row there before numbers old new = set_shown v rows e row there old (λ j has.
     elim (in_either (is_in (get_or rows e []) j) (is_in later j) (sym (numbers j) ∙ has)) [
       | inl one ↦ old e j one
-      | inr after ↦ between_rule v e middle j (old e middle before) (new j after)
+      | inr after ↦ shown_through v e middle j (old e middle before) (new j after)
     ])
 
 -- no pairs
-pub none_forced : (v : Values) (rows : List (List Bool)) → ((i j : ℕ) → is_in (get_or rows i []) j ≡ false)
-    → AreForced v rows
-none_forced v rows none e f has = let clash : false ≡ true = sym (none e f) ∙ has in absurd cc
+pub none_shown : (v : Values) (rows : List (List Bool)) → ((i j : ℕ) → is_in (get_or rows i []) j ≡ false)
+    → AreShown v rows
+none_shown v rows none e f has = let clash : false ≡ true = sym (none e f) ∙ has in absurd cc
 
 -- a row more without a number
 pub more_none : (rows : List (List Bool)) (row : List Bool) (n : ℕ) → ((i j : ℕ) → is_in (get_or rows i []) j ≡ false)
@@ -107,3 +108,16 @@ pub written_back : (n : ℕ) (new old : List (List Bool)) → length new ≡ len
 written_back n new old same size =
     ap (λ (l : List (List Bool)). take n (new ++ l)) (drop_all (length new) old (omega (arith, same)))
     ∙ (ap (take n) (append-nil new) ∙ take_all n new (omega (arith, same, size)))
+
+-- where a link was put into a slice of all rows
+pub put_back : (v : Values) (n : ℕ) (new given old : List (List Bool)) (l : Link) → given ≡ old → length new ≡ length given
+    → length old ≡ n → IsSquare new → (AreShown v given → IsShown v l.first l.second → AreShown v new) → AreShown v old
+    → IsLink v l → IsSquare (take n (new ++ drop (length new) old)) × AreShown v (take n (new ++ drop (length new) old))
+put_back v n new given old l all same size square more shown link =
+    let back : take n (new ++ drop (length new) old) ≡ new =
+    written_back n new old (same ∙ ap (λ (rows : List (List Bool)). length rows) all) size in (
+      subst (λ (rows : List (List Bool)). IsSquare rows) (sym back) square,
+      subst (λ (rows : List (List Bool)). AreShown v rows) (sym back)
+          (more (subst (λ (rows : List (List Bool)). AreShown v rows) (sym all) shown)
+          (shown_by v l.first l.second l.cause link)),
+    )

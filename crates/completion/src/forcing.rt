@@ -1,15 +1,17 @@
 //! The rules by which values force pairs of events.
 
-ghost use Rattle.std.specs.Prelude.{◌≡◌, ◌≢◌, ◌<◌, ◌⊎◌, All, IfOk, IsTrue, Some, None, length};
+ghost use Rattle.std.specs.Prelude.{◌≡◌, ◌≢◌, ◌<◌, ◌⊎◌, All, IfOk, IsTrue, OnOk, Some, None, length};
 ghost use Rattle.recording.specs.Execution.{ProgramOrder, Writes};
 ghost use Rattle.values.specs.Refused.{events_alone};
-ghost use Rattle.completion.specs.Search.{IsForced};
-ghost use Rattle.completion.specs.Pairs.{AreForced, IsRead, IsSource, IsSquare, IsTable};
+ghost use Rattle.completion.specs.Inferred.{AreInferred, IsShown};
+ghost use Rattle.completion.specs.Pairs.{IsRead, IsTable};
+ghost use Rattle.completion.specs.Sources.{IsOnlySource};
 
-use crate::pairs::{close, has, no_pairs, put};
+use crate::cause::{Cause, Link};
+use crate::inferred::Inferred;
+use crate::pairs::{has, has_circle};
 use crate::sources::{Source, is_own, source_of, writes_to};
 use crate::table::{Placed, event_at, table};
-use bitrow::BitRow;
 use common::{Addr, OutOfMemory};
 use std::alloc::Global;
 use values::Values;
@@ -26,47 +28,60 @@ pub struct Read {
 }
 
 /// Puts a pair of program order, if memory order keeps it.
-fn keep_one(values: &Values, table: &[Placed], rows: &mut [BitRow], e: usize, f: usize)
+fn keep_one(
+    values: &Values,
+    table: &[Placed],
+    inferred: &mut Inferred,
+    e: usize,
+    f: usize,
+) -> Result<(), OutOfMemory>
     requires table { IsTable values.now table.now }
-    requires square { IsSquare rows.old }
+    requires inferred { AreInferred values.now inferred.old }
     requires first { e < length table.now }
     requires second { f < length table.now }
-    ensures square { IsSquare rows.new }
-    ensures size { length rows.new ≡ length rows.old }
-    ensures forced { AreForced values.now rows.old → AreForced values.now rows.new }
+    ensures { OnOk result (AreInferred values.now inferred.new) }
 {
     let first = event_at(values, table, e);
     let second = event_at(values, table, f);
     if is_own(values, table, e, f) && first.keeps(&second) {
-        let _new = put(rows, e, f);
+        let link = Link {
+            first: e,
+            second: f,
+            cause: Cause::Po,
+        };
+        inferred.put(values, link)?;
     }
+    Ok(())
 }
 
 /// Puts the pairs of program order that memory order keeps and of which an event is the first.
-fn keep_after(values: &Values, table: &[Placed], rows: &mut [BitRow], e: usize)
+fn keep_after(
+    values: &Values,
+    table: &[Placed],
+    inferred: &mut Inferred,
+    e: usize,
+) -> Result<(), OutOfMemory>
     requires table { IsTable values.now table.now }
-    requires square { IsSquare rows.old }
+    requires inferred { AreInferred values.now inferred.old }
     requires there { e < length table.now }
-    ensures square { IsSquare rows.new }
-    ensures size { length rows.new ≡ length rows.old }
-    ensures forced { AreForced values.now rows.old → AreForced values.now rows.new }
+    ensures { OnOk result (AreInferred values.now inferred.new) }
 {
     for f in 0..table.len() {
-        keep_one(values, table, rows, e, f);
+        keep_one(values, table, inferred, e, f)?;
     }
+    Ok(())
 }
 
 /// Puts the pairs of program order that memory order keeps.
-fn keep(values: &Values, table: &[Placed], rows: &mut [BitRow])
+fn keep(values: &Values, table: &[Placed], inferred: &mut Inferred) -> Result<(), OutOfMemory>
     requires table { IsTable values.now table.now }
-    requires square { IsSquare rows.old }
-    ensures square { IsSquare rows.new }
-    ensures size { length rows.new ≡ length rows.old }
-    ensures forced { AreForced values.now rows.old → AreForced values.now rows.new }
+    requires inferred { AreInferred values.now inferred.old }
+    ensures { OnOk result (AreInferred values.now inferred.new) }
 {
     for e in 0..table.len() {
-        keep_after(values, table, rows, e);
+        keep_after(values, table, inferred, e)?;
     }
+    Ok(())
 }
 
 /// Puts what another write of its address forces, where the source of a read is the initial value. Whether a pair is
@@ -74,160 +89,181 @@ fn keep(values: &Values, table: &[Placed], rows: &mut [BitRow])
 fn force_initial(
     values: &Values,
     table: &[Placed],
-    rows: &mut [BitRow],
+    inferred: &mut Inferred,
     read: Read,
     write: usize,
-) -> bool
+) -> Result<bool, OutOfMemory>
     requires table { IsTable values.now table.now }
-    requires square { IsSquare rows.old }
+    requires inferred { AreInferred values.now inferred.old }
     requires read { IsRead values.now table.now read }
-    requires source { IsSource values.now read.number None }
+    requires source { IsOnlySource values.now read.number read.address None }
     requires write { write < length table.now }
     requires writes { Writes (events_alone values.now) write read.address }
     requires other { write ≢ read.number }
-    ensures square { IsSquare rows.new }
-    ensures size { length rows.new ≡ length rows.old }
-    ensures forced { AreForced values.now rows.old → AreForced values.now rows.new }
+    ensures { OnOk result (AreInferred values.now inferred.new) }
 {
     if is_own(values, table, write, read.number) {
-        put(rows, read.number, read.number)
-    } else {
-        put(rows, read.number, write)
+        let link = Link {
+            first: read.number,
+            second: read.number,
+            cause: Cause::Fr(None),
+        };
+        return inferred.put(values, link);
     }
+    let link = Link {
+        first: read.number,
+        second: write,
+        cause: Cause::Fr(None),
+    };
+    inferred.put(values, link)
 }
 
 /// Puts that the source of a read comes before it, unless it is earlier on its core. Whether the pair is new.
 fn force_source(
     values: &Values,
     table: &[Placed],
-    rows: &mut [BitRow],
+    inferred: &mut Inferred,
     read: Read,
     source: usize,
-) -> bool
+) -> Result<bool, OutOfMemory>
     requires table { IsTable values.now table.now }
-    requires square { IsSquare rows.old }
+    requires inferred { AreInferred values.now inferred.old }
     requires read { IsRead values.now table.now read }
-    requires source { IsSource values.now read.number (Some source) }
+    requires source { IsOnlySource values.now read.number read.address (Some source) }
     requires there { source < length table.now }
-    ensures square { IsSquare rows.new }
-    ensures size { length rows.new ≡ length rows.old }
-    ensures forced { AreForced values.now rows.old → AreForced values.now rows.new }
+    ensures { OnOk result (AreInferred values.now inferred.new) }
 {
     if is_own(values, table, source, read.number) {
-        false
-    } else {
-        put(rows, source, read.number)
+        return Ok(false);
     }
+    let link = Link {
+        first: source,
+        second: read.number,
+        cause: Cause::Rf,
+    };
+    inferred.put(values, link)
 }
 
 /// Whether a read sees a write: it is earlier on its core, or comes before it.
-fn sees(values: &Values, table: &[Placed], rows: &[BitRow], read: Read, write: usize) -> bool
+fn sees(values: &Values, table: &[Placed], inferred: &Inferred, read: Read, write: usize) -> bool
     requires table { IsTable values.now table.now }
-    requires square { IsSquare rows.now }
+    requires inferred { AreInferred values.now inferred.now }
     requires read { IsRead values.now table.now read }
     requires write { write < length table.now }
-    ensures { AreForced values.now rows.now → IsTrue result → IsForced values.now write read.number
+    ensures { IsTrue result → IsShown values.now write read.number
         ⊎ ProgramOrder (events_alone values.now) write read.number }
 {
-    is_own(values, table, write, read.number) || has(rows, write, read.number)
+    is_own(values, table, write, read.number) || has(&inferred.rows, write, read.number)
 }
 
 /// Puts what another write of its address forces, where the source of a read is a write. Whether a pair is new.
 fn force_other(
     values: &Values,
     table: &[Placed],
-    rows: &mut [BitRow],
+    inferred: &mut Inferred,
     read: Read,
     source: usize,
     write: usize,
-) -> bool
+) -> Result<bool, OutOfMemory>
     requires table { IsTable values.now table.now }
-    requires square { IsSquare rows.old }
+    requires inferred { AreInferred values.now inferred.old }
     requires read { IsRead values.now table.now read }
-    requires source { IsSource values.now read.number (Some source) }
+    requires source { IsOnlySource values.now read.number read.address (Some source) }
     requires write { write < length table.now }
     requires writes { Writes (events_alone values.now) write read.address }
     requires other { write ≢ read.number }
     requires apart { write ≢ source }
-    ensures square { IsSquare rows.new }
-    ensures size { length rows.new ≡ length rows.old }
-    ensures forced { AreForced values.now rows.old → AreForced values.now rows.new }
+    ensures { OnOk result (AreInferred values.now inferred.new) }
 {
-    if sees(values, table, rows, read, write) {
-        return put(rows, write, source);
+    if sees(values, table, inferred, read, write) {
+        let link = Link {
+            first: write,
+            second: source,
+            cause: Cause::Wo(read.number),
+        };
+        return inferred.put(values, link);
     }
-    if has(rows, source, write) {
-        return put(rows, read.number, write);
+    if has(&inferred.rows, source, write) {
+        let link = Link {
+            first: read.number,
+            second: write,
+            cause: Cause::Fr(Some(source)),
+        };
+        return inferred.put(values, link);
     }
-    false
+    Ok(false)
 }
 
 /// Puts what a write forces with a read of its address. Whether a pair is new.
 fn force_write(
     values: &Values,
     table: &[Placed],
-    rows: &mut [BitRow],
+    inferred: &mut Inferred,
     read: Read,
     write: usize,
-) -> bool
+) -> Result<bool, OutOfMemory>
     requires table { IsTable values.now table.now }
-    requires square { IsSquare rows.old }
+    requires inferred { AreInferred values.now inferred.old }
     requires read { IsRead values.now table.now read }
     requires write { write < length table.now }
-    ensures square { IsSquare rows.new }
-    ensures size { length rows.new ≡ length rows.old }
-    ensures forced { AreForced values.now rows.old → AreForced values.now rows.new }
+    ensures { OnOk result (AreInferred values.now inferred.new) }
 {
     if write == read.number || !writes_to(values, table, write, read.address) {
-        return false;
+        return Ok(false);
     }
     match read.source {
-        Source::Open => false,
-        Source::Initial => force_initial(values, table, rows, read, write),
+        Source::Open => Ok(false),
+        Source::Initial => force_initial(values, table, inferred, read, write),
         Source::Only(source) => {
             if write == source {
-                force_source(values, table, rows, read, source)
+                force_source(values, table, inferred, read, source)
             } else {
-                force_other(values, table, rows, read, source, write)
+                force_other(values, table, inferred, read, source, write)
             }
         }
     }
 }
 
 /// Puts what all writes force with a read of their address. Whether a pair is new.
-fn force_read(values: &Values, table: &[Placed], rows: &mut [BitRow], read: Read) -> bool
+fn force_read(
+    values: &Values,
+    table: &[Placed],
+    inferred: &mut Inferred,
+    read: Read,
+) -> Result<bool, OutOfMemory>
     requires table { IsTable values.now table.now }
-    requires square { IsSquare rows.old }
+    requires inferred { AreInferred values.now inferred.old }
     requires read { IsRead values.now table.now read }
-    ensures square { IsSquare rows.new }
-    ensures size { length rows.new ≡ length rows.old }
-    ensures forced { AreForced values.now rows.old → AreForced values.now rows.new }
+    ensures { OnOk result (AreInferred values.now inferred.new) }
 {
     let mut new = false;
     for write in 0..table.len() {
-        if force_write(values, table, rows, read, write) {
+        if force_write(values, table, inferred, read, write)? {
             new = true;
         }
     }
-    new
+    Ok(new)
 }
 
 /// Puts what all writes force with all reads. Whether a pair is new.
-fn force_reads(values: &Values, table: &[Placed], rows: &mut [BitRow], reads: &[Read]) -> bool
+fn force_reads(
+    values: &Values,
+    table: &[Placed],
+    inferred: &mut Inferred,
+    reads: &[Read],
+) -> Result<bool, OutOfMemory>
     requires table { IsTable values.now table.now }
-    requires square { IsSquare rows.old }
+    requires inferred { AreInferred values.now inferred.old }
     requires reads { All (IsRead values.now table.now) reads.now }
-    ensures square { IsSquare rows.new }
-    ensures size { length rows.new ≡ length rows.old }
-    ensures forced { AreForced values.now rows.old → AreForced values.now rows.new }
+    ensures { OnOk result (AreInferred values.now inferred.new) }
 {
     let mut new = false;
     for i in 0..reads.len() {
-        if force_read(values, table, rows, reads[i]) {
+        if force_read(values, table, inferred, reads[i])? {
             new = true;
         }
     }
-    new
+    Ok(new)
 }
 
 /// The reads with their sources, as far as they are known.
@@ -249,38 +285,38 @@ fn all_reads(alloc: Global, values: &Values, table: &[Placed]) -> Result<Vec<Rea
     Ok(reads)
 }
 
-/// Puts pairs by all rules until none is new.
+/// Puts pairs by all rules until none is new, or some event comes before itself: what would follow then has no meaning.
 fn infer(
     alloc: Global,
     values: &Values,
     table: &[Placed],
-    rows: &mut [BitRow],
+    inferred: &mut Inferred,
 ) -> Result<(), OutOfMemory>
     requires table { IsTable values.now table.now }
-    requires square { IsSquare rows.old }
-    ensures square { IfOk result (λ u. IsSquare rows.new) }
-    ensures size { IfOk result (λ u. length rows.new ≡ length rows.old) }
-    ensures forced { IfOk result (λ u. AreForced values.now rows.old → AreForced values.now rows.new) }
+    requires inferred { AreInferred values.now inferred.old }
+    ensures { OnOk result (AreInferred values.now inferred.new) }
 {
-    keep(values, table, rows);
+    keep(values, table, inferred)?;
     let reads = all_reads(alloc, values, table)?;
     for _ in 0..table.len() {
-        close(alloc, rows)?;
-        if !force_reads(values, table, rows, &reads) {
+        inferred.close(alloc, values)?;
+        if has_circle(&inferred.rows) {
+            return Ok(());
+        }
+        if !force_reads(values, table, inferred, &reads)? {
             return Ok(());
         }
     }
     Ok(())
 }
 
-/// Pairs that values force, as far as sources that they tell show: for each event by its number those that come after
-/// it. Fails only if out of memory.
-pub(crate) fn force_all(alloc: Global, values: &Values) -> Result<Vec<BitRow>, OutOfMemory>
-    ensures square { IfOk result (λ rows. IsSquare rows.items) }
-    ensures forced { IfOk result (λ rows. AreForced values.now rows.items) }
+/// Pairs that values force, as far as sources that they tell show, with the causes of those that a rule put. Fails only
+/// if out of memory.
+pub(crate) fn force_all(alloc: Global, values: &Values) -> Result<Inferred, OutOfMemory>
+    ensures { IfOk result (AreInferred values.now) }
 {
     let table = table(alloc, values)?;
-    let mut rows = no_pairs(alloc, table.len())?;
-    infer(alloc, values, &table, rows.as_mut_slice())?;
-    Ok(rows)
+    let mut inferred = Inferred::none(alloc, values, table.len())?;
+    infer(alloc, values, &table, &mut inferred)?;
+    Ok(inferred)
 }

@@ -3,8 +3,8 @@
 ghost use Rattle.std.specs.Prelude.{◌≡◌, ◌-◌, ◌^◌, ◌<◌, ℕ, IfOk, IsTrue, true, length};
 ghost use Rattle.bitrow.specs.Bits.{is_in};
 ghost use Rattle.values.specs.Values.{Values};
-ghost use Rattle.completion.specs.Pairs.{AreForced, HasPair, IsSquare};
-ghost use Rattle.completion.specs.Search.{IsForced};
+ghost use Rattle.completion.specs.Inferred.{AreShown, IsShown};
+ghost use Rattle.completion.specs.Pairs.{HasPair, IsSquare};
 
 use bitrow::BitRow;
 use common::OutOfMemory;
@@ -13,7 +13,7 @@ use std::alloc::Global;
 /// No pair of `count` events. Fails only if out of memory.
 pub(crate) fn no_pairs(alloc: Global, count: usize) -> Result<Vec<BitRow>, OutOfMemory>
     ensures square { IfOk result (λ rows. IsSquare rows.items) }
-    ensures forced { IfOk result (λ rows. (v : Values) → AreForced v rows.items) }
+    ensures shown { IfOk result (λ rows. (v : Values) → AreShown v rows.items) }
 {
     let mut rows = Vec::new(alloc);
     for _ in 0..count {
@@ -40,7 +40,7 @@ pub(crate) fn put(rows: &mut [BitRow], e: usize, f: usize) -> bool
     requires { IsSquare rows.old }
     ensures square { IsSquare rows.new }
     ensures size { length rows.new ≡ length rows.old }
-    ensures forced { (v : Values) → AreForced v rows.old → IsForced v e f → AreForced v rows.new }
+    ensures shown { (v : Values) → AreShown v rows.old → IsShown v e f → AreShown v rows.new }
 {
     if e >= rows.len() || f >= rows.len() || rows[e].test(f) {
         return false;
@@ -57,8 +57,8 @@ fn join_one(rows: &mut [BitRow], e: usize, middle: usize, later: &BitRow)
     requires later { length later.now ≡ length rows.old }
     ensures square { IsSquare rows.new }
     ensures size { length rows.new ≡ length rows.old }
-    ensures forced { (v : Values) → AreForced v rows.old
-        → ((f : ℕ) → is_in later.now f ≡ true → IsForced v middle f) → AreForced v rows.new }
+    ensures shown { (v : Values) → AreShown v rows.old
+        → ((f : ℕ) → is_in later.now f ≡ true → IsShown v middle f) → AreShown v rows.new }
 {
     if rows[e].test(middle) {
         later.or_into(&mut rows[e]);
@@ -72,8 +72,8 @@ fn join(rows: &mut [BitRow], middle: usize, later: &BitRow)
     requires later { length later.now ≡ length rows.old }
     ensures square { IsSquare rows.new }
     ensures size { length rows.new ≡ length rows.old }
-    ensures forced { (v : Values) → AreForced v rows.old
-        → ((f : ℕ) → is_in later.now f ≡ true → IsForced v middle f) → AreForced v rows.new }
+    ensures shown { (v : Values) → AreShown v rows.old
+        → ((f : ℕ) → is_in later.now f ≡ true → IsShown v middle f) → AreShown v rows.new }
 {
     for e in 0..rows.len() {
         join_one(rows, e, middle, later);
@@ -96,7 +96,7 @@ pub(crate) fn close(alloc: Global, rows: &mut [BitRow]) -> Result<(), OutOfMemor
     requires { IsSquare rows.old }
     ensures square { IsSquare rows.new }
     ensures size { length rows.new ≡ length rows.old }
-    ensures forced { (v : Values) → AreForced v rows.old → AreForced v rows.new }
+    ensures shown { (v : Values) → AreShown v rows.old → AreShown v rows.new }
 {
     let count = rows.len();
     for middle in 0..count {

@@ -1,7 +1,8 @@
 //! Sources of reads, as far as values tell them.
 
-ghost use Rattle.std.specs.Prelude.{◌≡◌, ◌<◌, ℕ, IfOk, IsTrue, Some, false, length};
-ghost use Rattle.completion.specs.Pairs.{found_of, IsFoundSource, IsTable, MayGive};
+ghost use Rattle.std.specs.Prelude.{◌≡◌, ◌<◌, ℕ, IfOk, IfSome, IsTrue, Some, false, length};
+ghost use Rattle.completion.specs.Pairs.{IsTable};
+ghost use Rattle.completion.specs.Sources.{found_of, IsFoundSource, MayGive};
 ghost use Rattle.recording.specs.Execution.{Reads, Writes, ProgramOrder, event_at};
 ghost use Rattle.values.specs.Refused.{events_alone};
 
@@ -52,7 +53,8 @@ fn may_give(values: &Values, table: &[Placed], read: usize, address: Addr, write
     requires table { IsTable values.now table.now }
     requires read { read < length table.now }
     requires write { write < length table.now }
-    ensures { result ≡ false → ¬ MayGive values.now read address write }
+    ensures holds { IsTrue result → MayGive values.now read address write }
+    ensures fails { result ≡ false → ¬ MayGive values.now read address write }
 {
     writes_to(values, table, write, address)
         && event_at(values, table, write).value_written()
@@ -70,7 +72,9 @@ fn only_write(
 ) -> Result<Option<usize>, Many>
     requires table { IsTable values.now table.now }
     requires read { read < length table.now }
-    ensures { IfOk result (λ o. (u : ℕ) → u < length table.now → MayGive values.now read address u → o ≡ Some u) }
+    ensures may { IfOk result (λ o. IfSome o (MayGive values.now read address)) }
+    ensures only { IfOk result (λ o. (u : ℕ) → u < length table.now → MayGive values.now read address u
+        → o ≡ Some u) }
 {
     let mut found = None;
     for write in 0..table.len() {
@@ -89,7 +93,7 @@ fn source_by_value(values: &Values, table: &[Placed], read: usize, address: Addr
     requires table { IsTable values.now table.now }
     requires read { read < length table.now }
     requires address { Reads (events_alone values.now) read address }
-    ensures { IsFoundSource values.now read result }
+    ensures { IsFoundSource values.now read address result }
 {
     let Ok(found) = only_write(values, table, read, address) else {
         return Source::Open;
@@ -122,7 +126,7 @@ pub(crate) fn source_of(values: &Values, table: &[Placed], read: usize, address:
     requires table { IsTable values.now table.now }
     requires read { read < length table.now }
     requires address { Reads (events_alone values.now) read address }
-    ensures { IsFoundSource values.now read result }
+    ensures { IsFoundSource values.now read address result }
 {
     let sources = values.sources();
     if read < sources.len() {

@@ -1,16 +1,18 @@
-use Rattle.std.proofs.Common.{Bool, List, sym, subst}
+use Rattle.std.proofs.Common.{Bool, List, Option, IfSome, Vec, Global, sym, subst}
+use Rattle.completion.specs.declared.cause.Link.{Link}
+use Rattle.completion.specs.Circle.{IsCircle}
 use Rattle.completion.specs.Pairs.{AreForced}
-use Rattle.completion.proofs.ForcingRules.{circle_rule}
+use Rattle.completion.proofs.Caused.{shown_forced}
 use Rattle.completion.proofs.completing.complete.Goals as goal
 
-pub returns-then-has_circle : goal.returns-then-has_circle
-returns-then-has_circle c =
-    let forced : AreForced c.args.values.now c.deref.result.now =
-    subst (λ (l : List (List Bool)). AreForced c.args.values.now l) (sym c.deref.ensures.value)
-    c.in_ok-pairs.ensures.forced in
-    let circle = c.has_circle.ensures c.if-has_circle.true in
-    circle_rule c.args.values.now circle.0 (forced circle.0 circle.0 circle.1)
+pub returns-in-Some : goal.returns-in-Some
+returns-in-Some c =
+    let v = c.args.values.now in
+    let circle : IsCircle v c.in-Some.circle.items =
+    subst (λ (o : Option (Vec Link Global)). IfSome o (λ (ls : Vec Link Global). IsCircle v ls.items)) c.in-Some.is
+    c.in_ok-circle.ensures in (circle, c.no_circle_is_allowed.ensures v c.in-Some.circle.items circle)
 
 pub searched-requires-clause-forced : goal.searched-requires-clause-forced
 searched-requires-clause-forced c = subst (λ (l : List (List Bool)). AreForced c.args.values.now l)
-    (sym c.deref-2.ensures.value) c.in_ok-pairs.ensures.forced
+    (sym c.deref.ensures.value)
+    (λ e f pair. shown_forced c.args.values.now e f (c.in_ok-inferred.ensures.shown e f pair))

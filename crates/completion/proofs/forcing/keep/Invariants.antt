@@ -1,10 +1,5 @@
-use Rattle.std.proofs.Common.{◌≡◌, length}
-use Rattle.completion.specs.Pairs.{IsSquare, AreForced}
+use Rattle.completion.specs.Inferred.{AreInferred}
 use Rattle.completion.proofs.forcing.keep.Given as goal
 
 abbrev pub invariant-loop-e : goal.invariant-loop-e
-invariant-loop-e l = record {
-  square : IsSquare l.rows;
-  size : length l.rows ≡ length l.fn.rows;
-  forced : AreForced l.values l.fn.rows → AreForced l.values l.rows;
-}
+invariant-loop-e l = AreInferred l.values l.inferred

@@ -1,10 +1,5 @@
-use Rattle.std.proofs.Common.{◌≡◌, length}
-use Rattle.completion.specs.Pairs.{IsSquare, AreForced}
+use Rattle.completion.specs.Inferred.{AreInferred}
 use Rattle.completion.proofs.forcing.keep_after.Given as goal
 
 abbrev pub invariant-loop-f : goal.invariant-loop-f
-invariant-loop-f l = record {
-  square : IsSquare l.rows;
-  size : length l.rows ≡ length l.fn.rows;
-  forced : AreForced l.values l.fn.rows → AreForced l.values l.rows;
-}
+invariant-loop-f l = AreInferred l.values l.inferred

@@ -1,6 +1,6 @@
 use Rattle.std.proofs.Common.{◌≡◌, ◌<◌, ℕ, Bool, false, List, [], length, get_or, arith, sym, subst, ap, ◌∙◌}
 use Rattle.bitrow.specs.Bits.{is_in}
-use Rattle.completion.proofs.Rows.{none_forced, more_none}
+use Rattle.completion.proofs.Rows.{none_shown, more_none}
 use Rattle.completion.proofs.pairs.no_pairs.Goals as goal
 
 pub returns-clause-square : goal.returns-clause-square
@@ -11,8 +11,8 @@ returns-clause-square c i inside = c.loop.invariant.size i inside ∙ omega (
   c.loop.auto.counter-end,
 )
 
-pub returns-clause-forced : goal.returns-clause-forced
-returns-clause-forced c v = none_forced v c.loop.rows.items c.loop.invariant.none
+pub returns-clause-shown : goal.returns-clause-shown
+returns-clause-shown c v = none_shown v c.loop.rows.items c.loop.invariant.none
 
 pub loop-preserved : goal.loop-preserved
 loop-preserved c =

@@ -1,0 +1,120 @@
+//! Ways along links, by breadth-first search.
+
+ghost use Rattle.std.specs.Prelude.{All, IfOk};
+ghost use Rattle.values.specs.Values.{Values};
+ghost use Rattle.completion.specs.Inferred.{IsLink};
+
+use crate::cause::Link;
+use common::OutOfMemory;
+use std::alloc::Global;
+
+/// A link by its place among all, and one more than the number of the step that comes after it on the way; 0 where none
+/// does.
+#[derive(Clone, Copy)]
+struct Step {
+    link: usize,
+    then: usize,
+}
+
+/// The steps by which events were reached, backwards, and which events were.
+#[derive(Drop)]
+struct Walk {
+    steps: Vec<Step>,
+    reached: Vec<bool>,
+}
+
+/// For each event the places of the links that lead to it.
+pub(crate) fn places_by_second(
+    alloc: Global,
+    links: &[Link],
+    count: usize,
+) -> Result<Vec<Vec<usize>>, OutOfMemory> {
+    let mut places = Vec::with_capacity(alloc, count)?;
+    for _ in 0..count {
+        places.push(Vec::new(alloc))?;
+    }
+    for place in 0..links.len() {
+        let second = links[place].second;
+        if second < places.len() {
+            places[second].push(place)?;
+        }
+    }
+    Ok(places)
+}
+
+/// Takes the links that lead to an event from events that were not reached.
+fn reach(
+    walk: &mut Walk,
+    links: &[Link],
+    places: &[Vec<usize>],
+    event: usize,
+    then: usize,
+) -> Result<(), OutOfMemory> {
+    if event >= places.len() {
+        return Ok(());
+    }
+    for place in &places[event] {
+        let link = *place;
+        if link < links.len() {
+            let first = links[link].first;
+            if first < walk.reached.len() && !walk.reached[first] {
+                walk.reached[first] = true;
+                walk.steps.push(Step { link, then })?;
+            }
+        }
+    }
+    Ok(())
+}
+
+/// The links of the steps from one on.
+fn links_from(
+    alloc: Global,
+    links: &[Link],
+    steps: &[Step],
+    first: usize,
+) -> Result<Vec<Link>, OutOfMemory>
+    ensures { IfOk result (λ way. (v : Values) → All (IsLink v) links.now → All (IsLink v) way.items) }
+{
+    let mut way = Vec::new(alloc);
+    let mut number = first;
+    for _ in 0..steps.len() {
+        if number >= steps.len() || steps[number].link >= links.len() {
+            return Ok(way);
+        }
+        way.push(links[steps[number].link])?;
+        let then = steps[number].then;
+        if then == 0 {
+            return Ok(way);
+        }
+        number = then - 1;
+    }
+    Ok(way)
+}
+
+/// Fewest links that lead from an event back to it; none where there are none. The places are those of
+/// `places_by_second`.
+pub(crate) fn way_back(
+    alloc: Global,
+    links: &[Link],
+    places: &[Vec<usize>],
+    event: usize,
+) -> Result<Vec<Link>, OutOfMemory>
+    ensures { IfOk result (λ way. (v : Values) → All (IsLink v) links.now → All (IsLink v) way.items) }
+{
+    let mut walk = Walk {
+        steps: Vec::new(alloc),
+        reached: vec![in alloc; false; places.len()]?,
+    };
+    reach(&mut walk, links, places, event, 0)?;
+    for number in 0..places.len() {
+        if number >= walk.steps.len() || walk.steps[number].link >= links.len() {
+            return Ok(Vec::new(alloc));
+        }
+        let first = links[walk.steps[number].link].first;
+        if first == event {
+            return links_from(alloc, links, &walk.steps, number);
+        }
+        reach(&mut walk, links, places, first, number + 1)?;
+    }
+    Ok(Vec::new(alloc))
+}
