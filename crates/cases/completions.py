@@ -100,12 +100,109 @@ def completes(program, values, text):
     return is_same and status == 0 and verdict.startswith("ordered:")
 
 
+class Rules:
+    """Which events come before which in whatever completes some values, by rules of the events alone."""
+
+    def __init__(self, values):
+        self.values, self.events = values, numbered(values)
+        self.numbers = range(len(self.events))
+        self.sources = {e: self.source(e) for e in self.numbers if self.events[e][1]["k"] in READS}
+        self.pairs = {(e, f) for e in self.numbers for f in self.numbers if self.is_kept(e, f)}
+        while more := {*self.joined(), *self.ruled()} - self.pairs:
+            self.pairs |= more
+
+    def writes(self, w, address):
+        event = self.events[w][1]
+        return event["k"] in WRITES and event["a"] == address
+
+    def is_own(self, e, f):
+        return e < f and self.events[e][0] == self.events[f][0]
+
+    def is_kept(self, e, f):
+        return self.is_own(e, f) and not (self.events[e][1]["k"] == "S" and self.events[f][1]["k"] == "L")
+
+    def source(self, e):
+        """All that a read may have as its source; none is the initial value."""
+        event = self.events[e][1]
+        if "s" in event:
+            return [event["s"]]
+        may = [w for w in self.numbers if self.writes(w, event["a"]) and self.events[w][1]["w"] == event["r"]
+               and w != e and not self.is_own(e, w)]
+        return may + [None] if not may or self.values["init"][event["a"]] == event["r"] else may
+
+    def is_only(self, e, w):
+        """Whether a read can have this source alone."""
+        return self.sources.get(e) == [w]
+
+    def sees(self, w, e):
+        return self.is_own(w, e) or (w, e) in self.pairs
+
+    def is_read_from(self, w, e):
+        return self.is_only(e, w) and not self.is_own(w, e)
+
+    def is_older(self, z, w, e):
+        """Whether a read that can read from w alone sees z, another write to the address."""
+        return w is not None and self.is_only(e, w) and z not in (w, e) and self.writes(z, self.events[e][1]["a"]) and self.sees(z, e)
+
+    def is_newer(self, e, z, w):
+        """Whether a read can read from w alone, after which z writes the address."""
+        return w is not None and self.is_only(e, w) and z != e and self.writes(z, self.events[e][1]["a"]) and (w, z) in self.pairs
+
+    def is_first(self, e, z):
+        """Whether a read can read the initial value alone, and z is another write to the address; or its core wrote it before."""
+        first = lambda f: self.is_only(e, None) and f != e and self.writes(f, self.events[e][1]["a"])
+        return first(z) or (e == z and any(first(f) and self.is_own(f, e) for f in self.numbers))
+
+    def joined(self):
+        """The pairs that two pairs give."""
+        return {(e, g) for e, f in self.pairs for h, g in self.pairs if f == h}
+
+    def ruled(self):
+        """The pairs that the rules of sources give."""
+        for e in self.sources:
+            for z in self.numbers:
+                w = self.sources[e][0]
+                if self.is_read_from(z, e):
+                    yield z, e
+                if self.is_older(z, w, e):
+                    yield z, w
+                if self.is_newer(e, z, w) or self.is_first(e, z):
+                    yield e, z
+
+    def holds(self, e, f, cause, numbers):
+        """Whether the cause of a line holds."""
+        if cause == "Po":
+            return not numbers and self.is_kept(e, f)
+        if cause == "Rf":
+            return not numbers and self.is_read_from(e, f)
+        if cause == "Wo":
+            return numbers[0] == e and self.is_older(e, f, numbers[1])
+        return self.is_newer(e, f, numbers[0]) and numbers[1] == f if numbers else self.is_first(e, f)
+
+    def is_circle(self, lines):
+        """Whether lines are a circle of pairs with their causes."""
+        words = [line.split(" ") for line in lines]
+        links = [(int(e), int(f), cause, [int(n) for n in numbers]) for e, _, f, cause, *numbers in words]
+        round_trip = all(links[i - 1][1] == links[i][0] for i in range(len(links)))
+        return round_trip and all(self.holds(*link) for link in links)
+
+    def has_circle(self):
+        return any(e == f for e, f in self.pairs)
+
+
+def is_shown(values, text):
+    """Whether a text calls values impossible, with a circle exactly where rules show one."""
+    rules, lines = Rules(values), text.splitlines()
+    circle = lines[1:lines.index("")] if "" in lines else lines[1:]
+    return lines[0] == "impossible" and bool(circle) == rules.has_circle() and rules.is_circle(circle)
+
+
 def is_right(program, values):
-    """Whether the program completes values that TSO allows, and calls others impossible."""
+    """Whether the program completes values that TSO allows, and calls others impossible, with a circle where rules show one."""
     status, text = ran(program, ["complete", "-"], text_of(values))
     if is_allowed(values):
         return status == 0 and completes(program, values, text)
-    return status == 2 and text.startswith("impossible\n")
+    return status == 2 and is_shown(values, text)
 
 
 def any_event(dice, addresses):
