@@ -4,6 +4,7 @@ ghost use Rattle.std.specs.Prelude.{All, IfOk, IfSome, IsTrue};
 ghost use Rattle.values.specs.Values.{Values};
 ghost use Rattle.completion.specs.Circle.{IsCircle, IsRound};
 ghost use Rattle.completion.specs.Inferred.{AreInferred, IsLink};
+ghost use Rattle.completion.specs.Pairs.{IsSquare};
 
 use crate::cause::Link;
 use crate::inferred::Inferred;
@@ -13,24 +14,33 @@ use common::OutOfMemory;
 use std::alloc::Global;
 use values::Values;
 
-/// Fewest links that lead from an event back to it, if it comes before itself; else none. The places are those of
-/// `places_by_second`.
+/// Fewest links that lead from an event back to it, and no more than `most`, if it comes before itself; else none. The
+/// places are those of `places_by_second`.
 fn round_at(
     alloc: Global,
-    values: &Values,
     inferred: &Inferred,
     places: &[Vec<usize>],
     event: usize,
+    most: usize,
 ) -> Result<Vec<Link>, OutOfMemory>
-    requires { AreInferred values.now inferred.now }
-    ensures { IfOk result (λ round. All (IsLink values.now) round.items) }
+    requires { IsSquare inferred.now.rows.items }
+    ensures { IfOk result (λ round. (v : Values) → All (IsLink v) inferred.now.links.items
+        → All (IsLink v) round.items) }
 {
-    let _values = values;
     if !has(&inferred.rows, event, event) {
         return Ok(Vec::new(alloc));
     }
-    let round = way_back(alloc, &inferred.links, places, event)?;
+    let round = way_back(alloc, &inferred.links, places, event, most)?;
     Ok(round)
+}
+
+/// How many links a round may have that is shorter than one before, if there was one.
+fn most_links(inferred: &Inferred, shortest: &[Link]) -> usize {
+    if shortest.is_empty() {
+        inferred.links.len()
+    } else {
+        shortest.len() - 1
+    }
 }
 
 /// The shorter of two rounds, of which each has links or is none; the first of two that are as long.
@@ -55,11 +65,13 @@ fn shortest_round(
     requires { AreInferred values.now inferred.now }
     ensures { IfOk result (λ round. All (IsLink values.now) round.items) }
 {
+    let _values = values;
     let count = inferred.rows.len();
     let places = places_by_second(alloc, &inferred.links, count)?;
     let mut shortest = Vec::new(alloc);
     for event in 0..count {
-        let round = round_at(alloc, values, inferred, &places, event)?;
+        let most = most_links(inferred, &shortest);
+        let round = round_at(alloc, inferred, &places, event, most)?;
         shortest = shorter(shortest, round);
     }
     Ok(shortest)

@@ -8,12 +8,13 @@ use crate::cause::Link;
 use common::OutOfMemory;
 use std::alloc::Global;
 
-/// A link by its place among all, and one more than the number of the step that comes after it on the way; 0 where none
-/// does.
+/// A link by its place among all; one more than the number of the step that comes after it on the way, 0 where none
+/// does; and how many links the way has from it on.
 #[derive(Clone, Copy)]
 struct Step {
     link: usize,
     then: usize,
+    length: usize,
 }
 
 /// The steps by which events were reached, backwards, and which events were.
@@ -42,6 +43,14 @@ pub(crate) fn places_by_second(
     Ok(places)
 }
 
+/// How many links a way has that begins before a step, by one more than its number.
+fn length_before(walk: &Walk, then: usize) -> usize {
+    if then == 0 || then > walk.steps.len() {
+        return 1;
+    }
+    walk.steps[then - 1].length.saturating_add(1)
+}
+
 /// Takes the links that lead to an event from events that were not reached.
 fn reach(
     walk: &mut Walk,
@@ -53,13 +62,14 @@ fn reach(
     if event >= places.len() {
         return Ok(());
     }
+    let length = length_before(walk, then);
     for place in &places[event] {
         let link = *place;
         if link < links.len() {
             let first = links[link].first;
             if first < walk.reached.len() && !walk.reached[first] {
                 walk.reached[first] = true;
-                walk.steps.push(Step { link, then })?;
+                walk.steps.push(Step { link, then, length })?;
             }
         }
     }
@@ -91,16 +101,20 @@ fn links_from(
     Ok(way)
 }
 
-/// Fewest links that lead from an event back to it; none where there are none. The places are those of
-/// `places_by_second`.
+/// Fewest links that lead from an event back to it, and no more than `most`; none where there are none. The places are
+/// those of `places_by_second`.
 pub(crate) fn way_back(
     alloc: Global,
     links: &[Link],
     places: &[Vec<usize>],
     event: usize,
+    most: usize,
 ) -> Result<Vec<Link>, OutOfMemory>
     ensures { IfOk result (λ way. (v : Values) → All (IsLink v) links.now → All (IsLink v) way.items) }
 {
+    if most == 0 {
+        return Ok(Vec::new(alloc));
+    }
     let mut walk = Walk {
         steps: Vec::new(alloc),
         reached: vec![in alloc; false; places.len()]?,
@@ -114,7 +128,9 @@ pub(crate) fn way_back(
         if first == event {
             return links_from(alloc, links, &walk.steps, number);
         }
-        reach(&mut walk, links, places, first, number + 1)?;
+        if walk.steps[number].length < most {
+            reach(&mut walk, links, places, first, number + 1)?;
+        }
     }
     Ok(Vec::new(alloc))
 }

@@ -5,5 +5,5 @@ use Rattle.completion.specs.Inferred.{IsLink}
 use Rattle.completion.proofs.circle.round_at.Goals as goal
 
 pub returns : goal.returns
-returns c = c.in_ok-round.ensures c.args.values.now
-    (subst (λ (l : List Link). All (IsLink c.args.values.now) l) (sym c.deref-2.ensures.value) c.requires.links)
+returns c v links = c.in_ok-round.ensures v
+    (subst (λ (l : List Link). All (IsLink v) l) (sym c.deref-2.ensures.value) links)
