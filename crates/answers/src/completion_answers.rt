@@ -28,9 +28,9 @@ fn impossible_answer(alloc: Global, circle: &[Link]) -> Result<Answer, OutOfMemo
     })
 }
 
-/// The text of a recording that completes the values, and which TSO allows; `impossible` where there is none, with the
-/// circle that shows it where forced pairs alone do; or `unfinished` where more states than this would have to be looked
-/// at. Fails only if out of memory.
+/// The text of a recording that completes the values, and which TSO allows; `impossible` where there is none, with a
+/// circle of events where rules show it; or `unfinished` where more states than this would have to be looked at. Fails
+/// only if out of memory.
 pub fn completion_answer(
     alloc: Global,
     values: &Values,

@@ -66,7 +66,7 @@ IsCause v P e f (Fr (Some w)) = IsNewerWrite v P e f w
 abbrev pub IsCaused : Values → (ℕ → ℕ → Type 0) → ℕ → ℕ → Type 0
 IsCaused v P e f = (cause : Cause) × IsCause v P e f cause
 
--- n rounds show that event e comes before event f: those before do, or a cause by their pairs does, or two of their pairs
+-- n rounds show that event e comes before event f: fewer do, or a cause by their pairs does, or two of their pairs do
 abbrev pub ShownIn : Values → ℕ → ℕ → ℕ → Type 0
 ShownIn v zero e f = ⊥
 ShownIn v (suc n) e f = ShownIn v n e f ⊎ (IsCaused v (ShownIn v n) e f

@@ -1,4 +1,4 @@
-//! The rules by which values force pairs of events.
+//! The rules by which sources of reads force pairs of events.
 
 ghost use Rattle.std.specs.Prelude.{◌≡◌, ◌≢◌, ◌<◌, ◌⊎◌, All, IfOk, IsTrue, OnOk, Some, None, length};
 ghost use Rattle.recording.specs.Execution.{ProgramOrder, Writes};
@@ -9,6 +9,7 @@ ghost use Rattle.completion.specs.Sources.{IsOnlySource};
 
 use crate::cause::{Cause, Link};
 use crate::inferred::Inferred;
+use crate::keeping::keep;
 use crate::pairs::{has, has_circle};
 use crate::sources::{Source, is_own, source_of, writes_to};
 use crate::table::{Placed, event_at, table};
@@ -25,63 +26,6 @@ pub struct Read {
     pub address: Addr,
     /// Its source.
     pub source: Source,
-}
-
-/// Puts a pair of program order, if memory order keeps it.
-fn keep_one(
-    values: &Values,
-    table: &[Placed],
-    inferred: &mut Inferred,
-    e: usize,
-    f: usize,
-) -> Result<(), OutOfMemory>
-    requires table { IsTable values.now table.now }
-    requires inferred { AreInferred values.now inferred.old }
-    requires first { e < length table.now }
-    requires second { f < length table.now }
-    ensures { OnOk result (AreInferred values.now inferred.new) }
-{
-    let first = event_at(values, table, e);
-    let second = event_at(values, table, f);
-    if is_own(values, table, e, f) && first.keeps(&second) {
-        let link = Link {
-            first: e,
-            second: f,
-            cause: Cause::Po,
-        };
-        inferred.put(values, link)?;
-    }
-    Ok(())
-}
-
-/// Puts the pairs of program order that memory order keeps and of which an event is the first.
-fn keep_after(
-    values: &Values,
-    table: &[Placed],
-    inferred: &mut Inferred,
-    e: usize,
-) -> Result<(), OutOfMemory>
-    requires table { IsTable values.now table.now }
-    requires inferred { AreInferred values.now inferred.old }
-    requires there { e < length table.now }
-    ensures { OnOk result (AreInferred values.now inferred.new) }
-{
-    for f in 0..table.len() {
-        keep_one(values, table, inferred, e, f)?;
-    }
-    Ok(())
-}
-
-/// Puts the pairs of program order that memory order keeps.
-fn keep(values: &Values, table: &[Placed], inferred: &mut Inferred) -> Result<(), OutOfMemory>
-    requires table { IsTable values.now table.now }
-    requires inferred { AreInferred values.now inferred.old }
-    ensures { OnOk result (AreInferred values.now inferred.new) }
-{
-    for e in 0..table.len() {
-        keep_after(values, table, inferred, e)?;
-    }
-    Ok(())
 }
 
 /// Puts what another write of its address forces, where the source of a read is the initial value. Whether a pair is

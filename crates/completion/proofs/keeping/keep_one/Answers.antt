@@ -3,7 +3,7 @@ use Rattle.recording.specs.declared.event.Event.{Event}
 use Rattle.recording.specs.Event.{is_plain_store, is_plain_load}
 use Rattle.recording.specs.Execution.{event_at}
 use Rattle.values.specs.Refused.{events_alone}
-use Rattle.completion.proofs.forcing.keep_one.Goals as goal
+use Rattle.completion.proofs.keeping.keep_one.Goals as goal
 
 pub put-requires-clause-link : goal.put-requires-clause-link
 put-requires-clause-link c = (
