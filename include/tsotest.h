@@ -31,11 +31,13 @@ extern "C" {
 
 /* The exit status of a command, which each call answers. */
 enum tsotest_status {
-    TSOTEST_ALLOWED = 0,       /* TSO allows the recording; of tsotest_verify, the verdict holds; of tsotest_survey, TSO allows each */
+    TSOTEST_ALLOWED = 0,       /* TSO allows the recording; of tsotest_verify, the verdict holds; of tsotest_survey, TSO allows each; of
+                                * tsotest_complete, TSO allows the values */
     TSOTEST_OUT_OF_MEMORY = 1, /* malloc gave none: nothing is written, the length is 0, and all memory is given back */
-    TSOTEST_VIOLATION = 2,     /* TSO doesn't allow the recording; of tsotest_verify, the verdict doesn't hold; of tsotest_survey, of one */
+    TSOTEST_VIOLATION = 2,     /* TSO doesn't allow the recording; of tsotest_verify, the verdict doesn't hold; of tsotest_survey, of one; of
+                                * tsotest_complete, TSO doesn't allow the values */
     TSOTEST_REFUSED = 3,       /* a text is refused, and the line says why; of tsotest_survey, a recording is, and none is a violation */
-    TSOTEST_UNFINISHED = 4     /* of tsotest_outcomes, there are more states than may be looked at */
+    TSOTEST_UNFINISHED = 4     /* of tsotest_outcomes and tsotest_complete, there are more states than may be looked at */
 };
 
 /* Texts.     A text is a pointer and a length in bytes. No 0 byte stands at its end; one that is counted is a byte of the text.
@@ -54,7 +56,7 @@ enum tsotest_status {
  * Stack.     256 KB are enough.
  *
  * Time.      It grows with the square of the events: 30 to 70 microseconds for 64, half a millisecond to 2 for 512. That of
- *            tsotest_outcomes grows with the states, as its memory does. */
+ *            tsotest_outcomes and tsotest_complete grows with the states, as their memory does. */
 
 /* What `tsotest judge` prints of a recording: the verdict. */
 uint8_t tsotest_judge(const char *recording, size_t recording_len, char *out, size_t out_len, size_t *len);
@@ -86,6 +88,11 @@ uint8_t tsotest_survey(const char *lines, size_t lines_len, uint64_t *codes, siz
 /* What `tsotest outcomes` prints of the litmus text of a program: every outcome that TSO allows, where it has at most this many
  * states, 1 to 2^32 - 1; else `unfinished`. */
 uint8_t tsotest_outcomes(const char *program, size_t program_len, size_t states, char *out, size_t out_len, size_t *len);
+
+/* What `tsotest complete` prints of values alone, the text of version 3 that tsotest_values_text gives: a recording that completes them,
+ * and which TSO allows; else `impossible`; or `unfinished`, where more than this many states, 1 to 2^32 - 1, would have to be looked at.
+ * TSOTEST_REFUSED by N1 to N6. */
+uint8_t tsotest_complete(const char *values, size_t values_len, size_t states, char *out, size_t out_len, size_t *len);
 
 /* What `tsotest --version` prints. */
 uint8_t tsotest_version(char *out, size_t out_len, size_t *len);

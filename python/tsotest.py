@@ -37,7 +37,7 @@ from typing import NamedTuple
 
 __all__ = [
     "Answer", "Counts", "Finding", "Kind", "NoRecording", "Recorder", "Status",
-    "draw", "explain", "judge", "outcomes", "reduce", "survey", "verify", "version",
+    "complete", "draw", "explain", "judge", "outcomes", "reduce", "survey", "verify", "version",
 ]
 
 MAX_CORES, MAX_EVENTS, MAX_ADDRESSES, MAX_LABEL_BYTES = 16, 512, 16, 64
@@ -47,13 +47,13 @@ class Status(IntEnum):
     """The exit status of a command. There is none for out of memory: that is a `MemoryError`."""
 
     ALLOWED = 0
-    """TSO allows the recording; of `verify`, the verdict holds."""
+    """TSO allows the recording; of `verify`, the verdict holds; of `complete`, TSO allows the values."""
     VIOLATION = 2
-    """TSO doesn't allow the recording; of `verify`, the verdict doesn't hold."""
+    """TSO doesn't allow the recording; of `verify`, the verdict doesn't hold; of `complete`, TSO doesn't allow the values."""
     REFUSED = 3
     """A text is refused; the answer's text is the line that says why."""
     UNFINISHED = 4
-    """Of `outcomes`, there are more states than may be looked at."""
+    """Of `outcomes` and `complete`, there are more states than may be looked at."""
 
 
 class Answer(NamedTuple):
@@ -134,9 +134,10 @@ def _library():
         for name in ("tsotest_explain", "tsotest_reduce", "tsotest_verify"):
             getattr(library, name).argtypes = [*text, *text, *out, *size]
         library.tsotest_survey.argtypes = [*text, ctypes.POINTER(ctypes.c_uint64), ctypes.c_size_t, *size]
-        library.tsotest_outcomes.argtypes = [*text, ctypes.c_size_t, *out, *size]
+        for name in ("tsotest_outcomes", "tsotest_complete"):
+            getattr(library, name).argtypes = [*text, ctypes.c_size_t, *out, *size]
         library.tsotest_version.argtypes = [*out, *size]
-        for name in ("judge", "explain", "draw", "reduce", "verify", "survey", "outcomes", "version"):
+        for name in ("judge", "explain", "draw", "reduce", "verify", "survey", "outcomes", "complete", "version"):
             getattr(library, f"tsotest_{name}").restype = ctypes.c_uint8
         return library
     raise OSError("tsotest: there is no libtsotest.so; TSOTEST_LIBRARY may name it")
@@ -225,6 +226,13 @@ def outcomes(program, states=1_000_000):
     """What `tsotest outcomes` prints of a litmus program: every outcome that TSO allows, where it has at most this many states."""
     text = _bytes(program)
     return _answer(_library().tsotest_outcomes, text, len(text), states)
+
+
+def complete(values, states=1_000_000):
+    """What `tsotest complete` prints of values alone, such as `values_alone` of a `Recorder` gives: a recording that completes them, and
+    which TSO allows; else `impossible`; or `unfinished`, where more than this many states would have to be looked at."""
+    text = _bytes(values)
+    return _answer(_library().tsotest_complete, text, len(text), states)
 
 
 def version():

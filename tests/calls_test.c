@@ -53,6 +53,11 @@ static uint8_t outcomes(const char *a, const char *b, char *to, size_t room, siz
     return tsotest_outcomes(a, strlen(a), strtoull(b, NULL, 10), to, room, size);
 }
 
+static uint8_t complete(const char *a, const char *b, char *to, size_t room, size_t *size)
+{
+    return tsotest_complete(a, strlen(a), strtoull(b, NULL, 10), to, room, size);
+}
+
 static uint8_t version(const char *a, const char *b, char *to, size_t room, size_t *size)
 {
     (void)a;
@@ -335,6 +340,31 @@ static void lists(void)
     wants(outcomes, "", "1", TSOTEST_ALLOWED, "outcomes: 1\n\n");
 }
 
+/* Values alone: those of ORDERED, and a load that reads 0 after another one read 1, which nobody writes again. */
+static void completions(void)
+{
+    const char *values = "{\"cores\":[[{\"a\":0,\"k\":\"S\",\"w\":1},{\"a\":1,\"k\":\"L\",\"r\":0}],"
+                         "[{\"a\":1,\"k\":\"S\",\"w\":1},{\"a\":0,\"k\":\"L\",\"r\":0}]],\"init\":[0,0],\"version\":3}";
+    const char *backwards = "{\"cores\":[[{\"a\":0,\"k\":\"S\",\"w\":1}],"
+                            "[{\"a\":0,\"k\":\"L\",\"r\":1},{\"a\":0,\"k\":\"L\",\"r\":0}]],\"init\":[0],\"version\":3}";
+    wants(complete, values, "1000", TSOTEST_ALLOWED, ORDERED "\n");
+    wants(complete, values, "1", TSOTEST_UNFINISHED, "unfinished\n");
+    wants(complete, values, "0", TSOTEST_REFUSED, "refused: K12\n");
+    wants(complete, values, "4294967296", TSOTEST_REFUSED, "refused: K12\n");
+    wants(complete, "no values", "0", TSOTEST_REFUSED, "refused: K12\n");
+    assert(complete(backwards, "1000", out, sizeof out, &len) == TSOTEST_VIOLATION && len >= 11 && memcmp(out, "impossible\n", 11) == 0);
+    wants(complete, "{\"cores\":[],\"init\":[],\"version\":3}", "1", TSOTEST_ALLOWED, "{\"cores\":[],\"version\":1,\"writes\":[]}\n");
+    wants(complete, "no values", "1", TSOTEST_REFUSED, "refused: N1\n");
+    wants(complete, "{}", "1", TSOTEST_REFUSED, "refused: N2\n");
+    wants(complete, ORDERED, "1", TSOTEST_REFUSED, "refused: N2\n");
+    wants(complete, "{\"cores\":[],\"init\":[],\"version\":2}", "1", TSOTEST_REFUSED, "refused: N3\n");
+    wants(complete, "{\"cores\":[],\"final\":[],\"init\":[0],\"version\":3}", "1", TSOTEST_REFUSED, "refused: N4\n");
+    wants(complete, "{\"cores\":[[{\"a\":0,\"k\":\"L\",\"r\":0,\"s\":1}]],\"init\":[0],\"version\":3}", "1", TSOTEST_REFUSED,
+          "refused: N5 event 0\n");
+    wants(complete, "{\"cores\":[[{\"a\":0,\"k\":\"L\",\"r\":1,\"s\":null}]],\"init\":[0],\"version\":3}", "1", TSOTEST_REFUSED,
+          "refused: N6 event 0\n");
+}
+
 int main(void)
 {
     answers();
@@ -345,6 +375,7 @@ int main(void)
     bound();
     longest();
     lists();
+    completions();
     wants(version, NULL, NULL, TSOTEST_ALLOWED, "tsotest 0.9.0\n");
     return 0;
 }

@@ -160,6 +160,28 @@ def listed(program):
         yield "outcomes of one state"
 
 
+def completed(program):
+    """Whether what is said of values is what the program prints."""
+    store, load = {"a": 0, "k": "S", "w": 1}, {"a": 0, "k": "L", "r": 1}
+    for cores, status in (([[store], [load, load]], 0), ([[store], [load, {**load, "r": 0}]], 2), ([[{**load, "r": 2**32}]], 3)):
+        values = json.dumps({"cores": cores, "init": [0], "version": 3})
+        answer = tsotest.complete(values)
+        ran = subprocess.run([program, "complete", "-"], input=values.encode(), capture_output=True)
+        if answer.status != status or (answer.status, answer.text.encode()) != (ran.returncode, ran.stdout):
+            yield f"complete {values}: {answer}"
+    r = tsotest.Recorder(2)
+    r.store(0, 0x40, 1)
+    r.load(0, 0x44, 0)
+    r.store(1, 0x44, 1)
+    r.load(1, 0x40, 0)
+    r.commit(0, 0x40, 1)
+    r.commit(1, 0x44, 1)
+    if tsotest.complete(r.values_alone()) != (0, r.recording()):
+        yield "complete of a recorder"
+    if tsotest.complete(r.values_alone(), 1) != (4, "unfinished\n"):
+        yield "complete of one state"
+
+
 def refused(what, words, is_of_design):
     """Whether a recorder says so."""
     try:
@@ -434,7 +456,7 @@ def main():
     files = [it.relative_to(DATA) for folder in ("classics", "limits", "recordings") for it in sorted(DATA.glob(f"{folder}/*.json"))]
     with ThreadPoolExecutor(4) as pool:
         failed = [it for part in pool.map(lambda file: [*differs(program, file)], files) for it in part]
-    failed += [*surveyed(program), *layouts(), *coded(), *listed(program), *recorders(), *values_alone(), *next_runs()]
+    failed += [*surveyed(program), *layouts(), *coded(), *listed(program), *completed(program), *recorders(), *values_alone(), *next_runs()]
     failed += [*empty(), *labelled(), *counted(), *values(), *merged(), *names()]
     if tsotest.version() + "\n" != commanded(program, ["--version"])[1]:
         failed.append(f"the version is {tsotest.version()}")

@@ -1,3 +1,4 @@
 pub mod Outcomes
 pub mod Statuses
 pub mod Lists
+pub mod Completions

@@ -4,3 +4,4 @@ pub mod Refused
 pub mod Rendered
 pub mod Checked
 pub mod Listed
+pub mod Completed

@@ -1,24 +1,16 @@
 -- What is answered of the outcomes of a program, by its text.
-use Rattle.std.specs.Prelude.{◌≡◌, ◌⊎◌, ◌++◌, ◌∷◌, [], ℕ, Bool, true, List, Ok, codes}
+use Rattle.std.specs.Prelude.{◌≡◌, ◌⊎◌, ℕ, List, Ok}
 use Rattle.program.specs.Parts.{Parts}
-use Rattle.program.specs.Shapes.{is_outside}
 use Rattle.program.specs.Text.{reading}
-use Rattle.verdicts.specs.declared.outcome.Outcome.TheVariants.{Refused}
 use Rattle.verdicts.specs.declared.printed.Answer.{Answer}
 use Rattle.answers.specs.Outcomes.{IsOutcomesAnswer}
-use Rattle.tsotest_library.specs.Refused.{IsLineRefused}
+use Rattle.tsotest_library.specs.Refused.{AreStatesRefused, IsLineRefused}
 
 -- the outcomes of the program of a text
 pub record IsListedText (text : List ℕ) (states : ℕ) (answer : Answer) : Type 0 where
   pub program : Parts
   pub read : reading text ≡ Ok program
   pub answered : IsOutcomesAnswer program states answer
-
--- the number of states is refused
-pub record AreStatesRefused (states : ℕ) (answer : Answer) : Type 0 where
-  pub outside : is_outside 4294967295 states ≡ true
-  pub outcome : answer.outcome ≡ Refused
-  pub printed : answer.text.items ≡ codes "refused: K12" ++ 10 ∷ []
 
 -- the outcomes of the program of a text, or that the number or the text is refused
 abbrev pub IsListedOf : List ℕ → ℕ → Answer → Type 0

@@ -1,13 +1,20 @@
--- Why the text of a program is refused.
-use Rattle.std.specs.Prelude.{◌≡◌, ◌⊎◌, ◌++◌, ◌∷◌, [], ℕ, List, Ok, Err, codes}
+-- Why a number of states, or the text of a program, is refused.
+use Rattle.std.specs.Prelude.{◌≡◌, ◌⊎◌, ◌++◌, ◌∷◌, [], ℕ, List, true, Ok, Err, codes}
 use Rattle.program.specs.declared.refusal.LineRefusal.{LineRefusal}
 use Rattle.litmus.specs.Refusals.{line_refusal_name, refusal_line}
 use Rattle.program.specs.Parts.{Parts}
+use Rattle.program.specs.Shapes.{is_outside}
 use Rattle.program.specs.Text.{reading}
 use Rattle.recording.specs.Execution.{Execution}
 use Rattle.machine.specs.ProgramOf.{IsProgramOf}
 use Rattle.verdicts.specs.declared.outcome.Outcome.TheVariants.{Refused}
 use Rattle.verdicts.specs.declared.printed.Answer.{Answer}
+
+-- the number of states is refused
+pub record AreStatesRefused (states : ℕ) (answer : Answer) : Type 0 where
+  pub outside : is_outside 4294967295 states ≡ true
+  pub outcome : answer.outcome ≡ Refused
+  pub printed : answer.text.items ≡ codes "refused: K12" ++ 10 ∷ []
 
 -- the first line of the text at fault
 pub record IsLineRefused (text : List ℕ) (answer : Answer) : Type 0 where

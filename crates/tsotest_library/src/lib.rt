@@ -9,13 +9,16 @@ ghost use Rattle.tsotest_library.specs.Judged.{IsJudgedOf};
 ghost use Rattle.tsotest_library.specs.Rendered.{IsRenderedOf};
 ghost use Rattle.tsotest_library.specs.Checked.{IsCheckOf};
 ghost use Rattle.tsotest_library.specs.Listed.{IsListedOf};
+ghost use Rattle.tsotest_library.specs.Completed.{IsCompletedOf};
 
 mod buffers;
 mod checking;
+mod completing;
 mod counting;
 mod judging;
 mod listing;
 mod rendering;
+mod states;
 #[cfg(test)]
 mod tests;
 
@@ -198,6 +201,35 @@ pub extern "C" fn tsotest_outcomes(
         IsAnswered (IsListedOf program.now states) Unfinished out.old out.new len.new }
 {
     buffers::put_answer(listing::listed_answer(alloc, program, states), out, len)
+}
+
+/// What `tsotest complete --states` prints of the values that the text gives, and its exit status: 0 where a recording
+/// completes them, 2 where TSO does not allow them, 3 where the number of states is refused, by K12, or the text, by N1
+/// to N6, 4 where more states than this would have to be looked at; 1 where there is no memory.
+#[unsafe(no_mangle)]
+pub extern "C" fn tsotest_complete(
+    alloc: Global,
+    values: &[u8],
+    states: usize,
+    out: &mut [u8],
+    len: &mut usize,
+) -> u8
+    ensures status { result ≤ 4 }
+    ensures completed { result ≡ 0 →
+        IsAnswered (IsCompletedOf values.now states) Ordered out.old out.new len.new }
+    ensures no_memory { result ≡ 1 → IsNothing out.old out.new len.new }
+    ensures impossible { result ≡ 2 →
+        IsAnswered (IsCompletedOf values.now states) Violation out.old out.new len.new }
+    ensures refused { result ≡ 3 →
+        IsAnswered (IsCompletedOf values.now states) Refused out.old out.new len.new }
+    ensures unfinished { result ≡ 4 →
+        IsAnswered (IsCompletedOf values.now states) Unfinished out.old out.new len.new }
+{
+    buffers::put_answer(
+        completing::completed_answer(alloc, values, states),
+        out,
+        len,
+    )
 }
 
 /// What `tsotest --version` prints; the status is 0.

@@ -3,15 +3,13 @@
 ghost use Rattle.std.specs.Prelude.{IfOk};
 ghost use Rattle.tsotest_library.specs.Listed.{IsListedOf};
 
+use crate::states::states_refusal;
 use answers::outcomes_answer;
 use common::OutOfMemory;
 use litmus::{line_refusal_name, parse, refusal_line};
-use program::{LitmusError, is_outside};
+use program::LitmusError;
 use report::{Answer, Outcome};
 use std::alloc::Global;
-
-/// The most states that are looked at.
-const MAX_STATES: usize = 4_294_967_295;
 
 /// The outcomes of the program of a text, or the line that refuses the number of states or the text. Fails only if out
 /// of memory.
@@ -22,8 +20,8 @@ pub(crate) fn listed_answer(
 ) -> Result<Answer, OutOfMemory>
     ensures { IfOk result (IsListedOf text.now states) }
 {
-    if is_outside(MAX_STATES, states) {
-        return Ok(Answer::of(alloc, Outcome::Refused, "refused: K12\n")?);
+    if let Some(refused) = states_refusal(alloc, states)? {
+        return Ok(refused);
     }
     match parse(alloc, text) {
         Ok(program) => outcomes_answer(alloc, &program, states),
