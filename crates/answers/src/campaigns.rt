@@ -1,11 +1,12 @@
 //! What is answered of campaigns and of surveys.
 
-ghost use Rattle.std.specs.Prelude.{◌≡◌, ◌≤◌, IfOk};
+ghost use Rattle.std.specs.Prelude.{◌≡◌, ◌≤◌, ◌++◌, IfOk};
 ghost use Rattle.verdicts.specs.declared.outcome.Outcome.TheVariants.{Unfinished};
 ghost use Rattle.answers.specs.Campaign.{IsCampaignAnswer, IsTrialsAnswer, ledger_outcome};
-ghost use Rattle.answers.specs.Survey.{IsSurveyAnswer};
+ghost use Rattle.answers.specs.Survey.{IsSurveyAnswer, IsValuesSurveyAnswer, empty_line, values_outcome};
 
 use common::{Gate, MAX_WORKERS, OutOfMemory};
+use ledger::{SurveyLedger, values_survey_text};
 use report::{Answer, Outcome, campaign_text, survey_text};
 use std::alloc::Global;
 use std::sync::Wait;
@@ -53,6 +54,18 @@ pub fn campaign_answer<R: Threads + Wait + Sync, G: Gate>(
     trials_answer(alloc, &ledger)
 }
 
+/// A text of counts, after an empty line where lines of recordings come before it.
+fn counts_after(alloc: Global, after_lines: bool, counts: &[u8]) -> Result<Vec<u8>, OutOfMemory>
+    ensures { IfOk result (λ text. text.items ≡ empty_line after_lines ++ counts.now) }
+{
+    let mut text = Vec::new(alloc);
+    if after_lines {
+        text.push(b'\n')?;
+    }
+    text.extend_from_slice(counts)?;
+    Ok(text)
+}
+
 /// The text of a survey's ledger, after an empty line where lines of recordings come before it, and `Violation`
 /// where a recording violates TSO, else `Refused` where one is refused, else `Done`. Fails only if out of memory.
 pub fn survey_answer(
@@ -63,11 +76,38 @@ pub fn survey_answer(
     ensures { IfOk result (IsSurveyAnswer after_lines ledger.now) }
 {
     let counts = survey_text(alloc, ledger)?;
-    let mut text = Vec::new(alloc);
-    if after_lines {
-        text.push(b'\n')?;
-    }
-    text.extend_from_slice(&counts)?;
+    let text = counts_after(alloc, after_lines, &counts)?;
     let outcome = outcome_of(ledger, Outcome::Refused);
+    Ok(Answer { outcome, text })
+}
+
+/// The outcome of a survey of values: `Violation` where TSO does not allow some, else `Refused` where some are unread,
+/// else `Unfinished` where some are, else `Done`.
+fn values_outcome(ledger: &SurveyLedger) -> Outcome
+    ensures { result ≡ values_outcome ledger.now }
+{
+    if ledger.ledger.first.is_some() {
+        Outcome::Violation
+    } else if ledger.unread.count > 0 {
+        Outcome::Refused
+    } else if ledger.unfinished.count > 0 {
+        Outcome::Unfinished
+    } else {
+        Outcome::Done
+    }
+}
+
+/// The text of a survey of values, after an empty line where lines of recordings come before it, and its outcome. Fails
+/// only if out of memory.
+pub fn values_survey_answer(
+    alloc: Global,
+    ledger: &SurveyLedger,
+    after_lines: bool,
+) -> Result<Answer, OutOfMemory>
+    ensures { IfOk result (IsValuesSurveyAnswer after_lines ledger.now) }
+{
+    let counts = values_survey_text(alloc, ledger)?;
+    let text = counts_after(alloc, after_lines, &counts)?;
+    let outcome = values_outcome(ledger);
     Ok(Answer { outcome, text })
 }

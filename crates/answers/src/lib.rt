@@ -11,7 +11,7 @@ mod rendering;
 mod runs;
 mod shown;
 
-pub use campaigns::{campaign_answer, survey_answer, trials_answer};
+pub use campaigns::{campaign_answer, survey_answer, trials_answer, values_survey_answer};
 pub use completion_answers::completion_answer;
 pub use histogram_answers::{live_histogram_answer, seeded_histogram_answer};
 pub use outcome_answers::{

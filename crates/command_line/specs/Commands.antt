@@ -36,7 +36,8 @@ commands = (
     ∷ (
       codes "survey",
       (codes "FILE", Place) ∷ (codes "workers", Number) ∷ (codes "each", Nothing) ∷ (codes "show", Number)
-          ∷ (codes "reduce", Nothing) ∷ (codes "quiet", Nothing) ∷ (codes "words", Nothing) ∷ [],
+          ∷ (codes "reduce", Nothing) ∷ (codes "complete", Nothing) ∷ (codes "states", Number)
+          ∷ (codes "quiet", Nothing) ∷ (codes "words", Nothing) ∷ [],
     )
     ∷ (codes "merge", (codes "FILE", Places) ∷ (codes "words", Nothing) ∷ [])
     ∷ (

@@ -13,7 +13,7 @@ use Rattle.machine.specs.declared.fault.Fault.{Fault}
 use Rattle.machine.specs.declared.fault.Fault.TheVariants as fault
 use Rattle.command_line.specs.declared.options.Limits.{Limits}
 use Rattle.command_line.specs.declared.options.Misfit.{Misfit}
-use Rattle.command_line.specs.declared.options.Misfit.TheVariants.{EachWithShow, ReduceWithoutShow}
+use Rattle.command_line.specs.declared.options.Misfit.TheVariants.{EachWithShow, CompleteWithShow, ReduceWithoutShow}
 use Rattle.command_line.specs.declared.options.Misfit.TheVariants.{RunsWithSteps, TwoQuestions, UnseenWithoutObserved}
 use Rattle.command_line.specs.declared.options.TheConstants.{DEFAULT_FAULT}
 use Rattle.command_line.specs.declared.table.Takes.{Takes}
@@ -113,11 +113,13 @@ question_misfit rows = if nat_lt 1 (questions rows) then Some TwoQuestions
 abbrev pub runs_misfit : List Row → Option Misfit
 runs_misfit rows = if is_some (runs_of rows) && not (given (codes "steps") rows == 0) then Some RunsWithSteps else None
 
--- the options that don't go together: --each with --show, or --reduce without it, or those of outcomes, or of runs
+-- the options that don't go together: --each or --complete with --show, or --reduce without it, or those of outcomes, or
+-- of runs
 abbrev pub misfit_of : List Row → Option Misfit
 misfit_of rows = if is_some (show_of rows) && is_given (codes "each") rows then Some EachWithShow
+    else (if is_some (show_of rows) && is_given (codes "complete") rows then Some CompleteWithShow
     else (if not (is_some (show_of rows)) && is_given (codes "reduce") rows then Some ReduceWithoutShow
-    else option_or (question_misfit rows) (runs_misfit rows))
+    else option_or (question_misfit rows) (runs_misfit rows)))
 
 -- the entry, where there is one, is a number of 64 bits
 abbrev pub HasNumber : Text → List Row → Type 0

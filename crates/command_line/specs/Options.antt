@@ -72,6 +72,7 @@ pub record AreValuesAsked (v : Values) (rows : List Row) : Type 0 where
   pub quiet : v.quiet ≡ is_given (codes "quiet") rows
   pub all : v.all ≡ is_given (codes "all") rows
   pub each : v.each ≡ is_given (codes "each") rows
+  pub complete : v.complete ≡ is_given (codes "complete") rows
   pub states : IsNumber (codes "states") STATES rows v.states
   pub unseen : v.unseen ≡ is_given (codes "unseen") rows
   pub runs : AreRuns v.runs rows
@@ -134,6 +135,12 @@ pub record AreVerifyOptions (o : VerifyOptions) (rows : List Row) : Type 0 where
   pub verdict : first_of (codes "VERDICT") rows ≡ Some (string_bytes o.verdict)
   pub workers : IsNumber (codes "workers") WORKERS rows o.workers
 
+-- lines are completed, where this many states are looked at at most for each, or they are not
+abbrev pub IsCompletionAsked : Option ℕ → List Row → Type 0
+IsCompletionAsked None rows = is_given (codes "complete") rows ≡ false
+IsCompletionAsked (Some states) rows = (is_given (codes "complete") rows ≡ true)
+    × IsNumber (codes "states") STATES rows states
+
 -- each option of survey is its entry, or else its default
 pub record AreSurveyOptions (o : SurveyOptions) (rows : List Row) : Type 0 where
   pub file : first_of (codes "FILE") rows ≡ Some (string_bytes o.file)
@@ -142,6 +149,7 @@ pub record AreSurveyOptions (o : SurveyOptions) (rows : List Row) : Type 0 where
   pub reduce : o.reduce ≡ is_given (codes "reduce") rows
   pub workers : IsNumber (codes "workers") WORKERS rows o.workers
   pub quiet : o.quiet ≡ is_given (codes "quiet") rows
+  pub complete : IsCompletionAsked o.complete rows
 
 -- the names are those of the entry, one at least
 pub record AreMergeOptions (o : MergeOptions) (rows : List Row) : Type 0 where

@@ -3,7 +3,8 @@ ghost use Rattle.std.specs.Prelude.{◌≡◌, ◌≢◌, IfOk, List, None, Some
 ghost use Rattle.clap.specs.Words.{Row, first_of, found_of, rows_of};
 ghost use Rattle.command_line.specs.Entries.{HasEntries, HasText};
 ghost use Rattle.command_line.specs.Options.{AreExplainOptions, AreMergeOptions, AreOptionsOf, AreRunOptions};
-ghost use Rattle.command_line.specs.Options.{AreOutcomesOptions, AreSurveyOptions, AreValuesAsked, IsQuestion};
+ghost use Rattle.command_line.specs.Options.{AreOutcomesOptions, AreSurveyOptions, AreValuesAsked, IsCompletionAsked};
+ghost use Rattle.command_line.specs.Options.{IsQuestion};
 ghost use Rattle.command_line.specs.Refusals.{refusal_of};
 
 use crate::entries::{maybe_text, maybe_texts};
@@ -106,6 +107,17 @@ fn run_options(
     })
 }
 
+/// How many states are looked at at most for each line, where lines are completed.
+fn completion_asked(values: &Values) -> Option<usize>
+    ensures { (rows : List Row) → AreValuesAsked values.now rows → IsCompletionAsked result rows }
+{
+    if values.complete {
+        Some(values.states)
+    } else {
+        None
+    }
+}
+
 /// The options of `survey`.
 fn survey_options(
     alloc: Global,
@@ -123,6 +135,7 @@ fn survey_options(
         reduce: values.reduce,
         workers: values.workers,
         quiet: values.quiet,
+        complete: completion_asked(values),
     })
 }
 

@@ -206,6 +206,8 @@ pub struct SurveyOptions {
     pub workers: usize,
     /// Whether no progress is shown.
     pub quiet: bool,
+    /// Where the lines are values that are completed, how many states are looked at at most for each, 1 to 2^32 - 1.
+    pub complete: Option<usize>,
 }
 
 /// What `merge` is asked: the names of the texts.
@@ -293,6 +295,8 @@ pub enum OptionRefusal {
 pub enum Misfit {
     /// `--each` reports all recordings, and `--show` one of them instead.
     EachWithShow,
+    /// `--complete` counts what values come to, and `--show` shows a verdict instead.
+    CompleteWithShow,
     /// `--reduce` cuts down what `--show` shows.
     ReduceWithoutShow,
     /// Two of `--observed`, `--exists`, `--never` and `--show` ask different things.
@@ -308,6 +312,9 @@ impl Display for Misfit {
         match self {
             Misfit::EachWithShow => {
                 f.write_str("error: the argument '--show <K>' cannot be used with '--each'")?;
+            }
+            Misfit::CompleteWithShow => {
+                f.write_str("error: the argument '--show <K>' cannot be used with '--complete'")?;
             }
             Misfit::ReduceWithoutShow => {
                 f.write_str(

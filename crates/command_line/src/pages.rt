@@ -278,17 +278,26 @@ judged; then comes an empty line. With `--show K` only recording K is answered, 
 longest line, however long the input is. The answer does not depend on the number of
 workers.
 
+With `--complete` each line has values alone, as `complete` reads them. It prints
+`recordings N`, how many there are; `ordered N`, how many TSO allows; `impossible N`, how
+many it does not; `unfinished N`, for how many there are more states than `--states` allows;
+`unread N`, how many are no values; and the first of each of these three: `first impossible:
+recording K`, `first unfinished: recording K`, `first unread: recording K`, or `none`. With
+`--each` a line is such as `0 ordered`, `1 impossible`, `2 unfinished` or `3 refused: N2`.
+
 Where standard error is a terminal, a survey that lasts shows there how many recordings are
 done and how many violations were found, until its end; with `--quiet` it shows nothing.",
     statuses: "Exit status:
-  0  TSO allows each recording
+  0  TSO allows each recording, or the values of each
   1  an error of the command line, a file or memory, as standard error says
-  2  at least one recording is a violation of TSO
+  2  at least one recording is a violation of TSO, or one's values are impossible
   3  no recording is a violation, and at least one was refused; or there is no recording K,
      or a number was refused, as the line `refused: ..` says
+  4  none is a violation or refused, and at least one is unfinished
 
 Examples:
   cat nightly/*.json | tsotest survey - --workers 4
+  tsotest survey chip.jsonl --complete --workers 4
   tsotest survey nightly.jsonl --show 2 --reduce",
 };
 

@@ -202,6 +202,13 @@ const REDUCE: ArgumentRow = ArgumentRow {
     help: "Shows of a violation only the events that it needs; only with --show",
 };
 
+const COMPLETE: ArgumentRow = ArgumentRow {
+    name: "complete",
+    takes: Takes::Nothing,
+    value: "",
+    help: "Takes the lines for values, and says of each whether TSO allows it; not with --show",
+};
+
 const QUIET: ArgumentRow = ArgumentRow {
     name: "quiet",
     takes: Takes::Nothing,
@@ -330,6 +337,8 @@ pub const COMMANDS: &[CommandRow] = &[
             EACH,
             SHOW_RECORDING,
             REDUCE,
+            COMPLETE,
+            STATES,
             QUIET,
             WORDS,
         ],

@@ -1,21 +1,24 @@
 -- What survey answers.
-use Rattle.std.specs.Prelude.{◌≡◌, ◌≢◌, ◌≤◌, ◌^◌, ◌++◌, ◌∷◌, [], ℕ, List, Option, None, Some, true, false, codes}
+use Rattle.std.specs.Prelude.{◌≡◌, ◌≢◌, ◌≤◌, ◌^◌, ◌++◌, ◌∷◌, [], ℕ, Bool, List, Option, None, Some, true, false}
+use Rattle.std.specs.Prelude.{codes}
 use Rattle.std.specs.Prelude.{IfSome, length, string_bytes, ⊤}
 use Rattle.std.specs.Io.KnownBytes.{Appends}
 use Rattle.command_line.specs.declared.options.SurveyOptions.{SurveyOptions}
 use Rattle.ledger.specs.declared.finding.Finding.{Finding}
-use Rattle.ledger.specs.declared.ledger.Ledger.{Ledger}
-use Rattle.ledger.specs.Counts.{IsLedger}
+use Rattle.ledger.specs.declared.survey_ledger.SurveyLedger.{SurveyLedger}
+use Rattle.ledger.specs.Surveyed.{IsSurveyLedger}
+use Rattle.surveys.specs.declared.kind.LineKind.{LineKind}
+use Rattle.surveys.specs.declared.kind.LineKind.TheVariants.{Recording, Values}
 use Rattle.surveys.specs.Found.{AreFindings, codes_of}
 use Rattle.surveys.specs.Lines.{lines}
 use Rattle.surveys.specs.Shown.{IsLineAt}
 use Rattle.surveys.specs.Each.{each_text}
-use Rattle.ledger.specs.Counted.{survey_text}
+use Rattle.ledger.specs.Counted.{survey_text, values_survey_text}
 use Rattle.verdicts.specs.declared.printed.Answer.{Answer}
 use Rattle.verdicts.specs.declared.outcome.Outcome.{Outcome}
 use Rattle.verdicts.specs.declared.outcome.Outcome.TheVariants as out
 use Rattle.answers.specs.Campaign.{ledger_outcome}
-use Rattle.answers.specs.Survey.{IsLineAnswer, IsSurveyAnswer}
+use Rattle.answers.specs.Survey.{IsLineAnswer, empty_line, values_outcome}
 use Rattle.inputs.specs.declared.command_error.CommandError.{CommandError}
 use Rattle.inputs.specs.declared.command_error.CommandError.TheVariants.{TooLong, WriteFailed}
 use Rattle.inputs.specs.declared.command_stop.CommandStop.{CommandStop}
@@ -26,28 +29,49 @@ use Rattle.inputs.specs.Inputs.{AreBytesOf, IsInputError, OfBytes}
 abbrev pub TellsEach : SurveyOptions → Type 0
 TellsEach o = (o.each ≡ true) × (o.show ≡ None)
 
--- what is found in the lines of the named input, in order, and the ledger of its codes
-pub record IsSurveyed (inputs : List ℕ → Option (List ℕ)) (name : List ℕ) (findings : List Finding) (ledger : Ledger)
+-- what the lines are: recordings, or with --complete values, of which each may have this many states
+abbrev pub line_kind : Option ℕ → LineKind
+line_kind None = Recording
+line_kind (Some states) = Values states
+
+-- the counts of such lines, as a text
+abbrev pub counts_text : Option ℕ → SurveyLedger → List ℕ
+counts_text None ledger = survey_text ledger.ledger
+counts_text (Some states) ledger = values_survey_text ledger
+
+-- and how they come out
+abbrev pub counts_outcome : Option ℕ → SurveyLedger → Outcome
+counts_outcome None ledger = ledger_outcome out.Refused ledger.ledger
+counts_outcome (Some states) ledger = values_outcome ledger
+
+-- an answer with the counts of such lines, which come after lines of recordings or not
+pub record IsCountsAnswer (complete : Option ℕ) (after_lines : Bool) (ledger : SurveyLedger) (answer : Answer)
     : Type 0 where
+  pub outcome : answer.outcome ≡ counts_outcome complete ledger
+  pub text : answer.text.items ≡ empty_line after_lines ++ counts_text complete ledger
+
+-- what is found in the lines of the named input, in order, and what is counted of their codes
+pub record IsSurveyed (inputs : List ℕ → Option (List ℕ)) (o : SurveyOptions) (findings : List Finding)
+    (ledger : SurveyLedger) : Type 0 where
   pub bytes : List ℕ
-  pub given : AreBytesOf inputs name bytes
-  pub found : AreFindings (lines bytes) findings
-  pub counted : IsLedger (codes_of findings) ledger
+  pub given : AreBytesOf inputs (string_bytes o.file) bytes
+  pub found : AreFindings (line_kind o.complete) (lines bytes) findings
+  pub counted : IsSurveyLedger (codes_of findings) ledger
 
 -- a line of each was written, an empty line, and their counts
 pub record IsEachWritten (inputs : List ℕ → Option (List ℕ)) (o : SurveyOptions) (before after : Option (List ℕ))
     (outcome : Outcome) : Type 0 where
   pub tells : TellsEach o
   pub findings : List Finding
-  pub ledger : Ledger
-  pub surveyed : IsSurveyed inputs (string_bytes o.file) findings ledger
-  pub outcome_is : outcome ≡ ledger_outcome out.Refused ledger
-  pub written : Appends before after (each_text 0 findings ++ 10 ∷ survey_text ledger)
+  pub ledger : SurveyLedger
+  pub surveyed : IsSurveyed inputs o findings ledger
+  pub outcome_is : outcome ≡ counts_outcome o.complete ledger
+  pub written : Appends before after (each_text 0 findings ++ 10 ∷ counts_text o.complete ledger)
 
 -- the answer of survey, where no recording is reported, by the one that is to be shown
 abbrev pub IsSurveyOf : (List ℕ → Option (List ℕ)) → SurveyOptions → Option ℕ → Answer → Type 0
-IsSurveyOf inputs o None answer = (o.each ≢ true) × (findings : List Finding) × (ledger : Ledger)
-    × IsSurveyed inputs (string_bytes o.file) findings ledger × IsSurveyAnswer false ledger answer
+IsSurveyOf inputs o None answer = (o.each ≢ true) × (findings : List Finding) × (ledger : SurveyLedger)
+    × IsSurveyed inputs o findings ledger × IsCountsAnswer o.complete false ledger answer
 IsSurveyOf inputs o (Some k) answer = OfBytes inputs (string_bytes o.file)
     (λ bytes. (line : List ℕ) × IsLineAt bytes k line × IsLineAnswer o.reduce line answer)
 

@@ -4,18 +4,45 @@ ghost use Rattle.std.specs.Io.KnownBytes.{Appends};
 ghost use Rattle.devices.specs.Bytes.{CanGrow, CountsBy};
 ghost use Rattle.surveys.specs.Surveys.{told_text};
 ghost use Rattle.inputs.specs.Inputs.{CanRead, ReadsNamed, ReadsInput, command_failed_writes};
-ghost use Rattle.commands.specs.Survey.{IsEachError, IsEachWritten, IsSurveyed, IsSurveyOf, IsSurveyStop, TellsEach};
+ghost use Rattle.commands.specs.Survey.{IsCountsAnswer, IsEachError, IsEachWritten, IsSurveyed, IsSurveyOf, IsSurveyStop};
+ghost use Rattle.commands.specs.Survey.{TellsEach, line_kind};
 
 use crate::output::put;
-use answers::{line_answer, survey_answer};
+use answers::{line_answer, survey_answer, values_survey_answer};
 use command_line::SurveyOptions;
+use common::OutOfMemory;
 use devices::{Host, MemorySink, Sink};
 use inputs::{CommandError, CommandStop, opened};
 use report::{Answer, Outcome};
 use std::alloc::Global;
 use std::sync::Wait;
 use std::thread::Threads;
-use surveys::{Finding, Ledger, SurveyError, line_of, survey};
+use surveys::{Finding, LineKind, SurveyError, SurveyLedger, line_of, survey};
+
+/// What the lines are.
+fn line_kind(complete: Option<usize>) -> LineKind
+    ensures { result ≡ line_kind complete }
+{
+    match complete {
+        Some(states) => LineKind::Values(states),
+        None => LineKind::Recording,
+    }
+}
+
+/// What is answered of the counts of lines.
+fn counts_answer(
+    alloc: Global,
+    complete: Option<usize>,
+    ledger: &SurveyLedger,
+    after_lines: bool,
+) -> Result<Answer, OutOfMemory>
+    ensures { IfOk result (IsCountsAnswer complete after_lines ledger.now) }
+{
+    match complete {
+        Some(_) => values_survey_answer(alloc, ledger, after_lines),
+        None => survey_answer(alloc, &ledger.ledger, after_lines),
+    }
+}
 
 /// Counts the recordings of the named input, and writes the line of each where it is reported.
 fn counted<R: Threads + Wait + Sync, H: Host, W: Sink>(
@@ -25,11 +52,11 @@ fn counted<R: Threads + Wait + Sync, H: Host, W: Sink>(
     host: &mut H,
     out: &mut W,
     each: bool,
-) -> Result<Ledger, CommandError>
+) -> Result<SurveyLedger, CommandError>
     requires inputs { CanRead (H.log host.old).tally }
     requires output { CanGrow (W.write_failures out.old) }
     ensures ok { IfOk result (λ ledger. (findings : List Finding)
-        × IsSurveyed (H.bytes host.old) (string_bytes options.now.file) findings ledger
+        × IsSurveyed (H.bytes host.old) options.now findings ledger
         × Appends (W.written out.old) (W.written out.new) (told_text each 0 findings)) }
     ensures error { IfErr result (IsEachError (H.bytes host.old) options.now) }
     ensures reads { ReadsInput (string_bytes options.now.file) (H.log host.old) (H.log host.new) result }
@@ -38,7 +65,17 @@ fn counted<R: Threads + Wait + Sync, H: Host, W: Sink>(
 {
     let mut input = opened(alloc, host, options.file.as_str())?;
     let progress = host.progress(None, options.quiet);
-    let surveyed = survey(rt, alloc, &mut input, out, each, options.workers, &progress);
+    let kind = line_kind(options.complete);
+    let surveyed = survey(
+        rt,
+        alloc,
+        kind,
+        &mut input,
+        out,
+        each,
+        options.workers,
+        &progress,
+    );
     drop(progress);
     host.take_back(input);
     match surveyed {
@@ -69,7 +106,7 @@ pub fn each_command<R: Threads + Wait + Sync, H: Host, W: Sink>(
     ensures writes { CountsBy command_failed_writes (W.write_failures out.old) (W.write_failures out.new) result }
 {
     let ledger = counted(rt, alloc, options, host, out, true)?;
-    let counts = survey_answer(alloc, &ledger, true)?;
+    let counts = counts_answer(alloc, options.complete, &ledger, true)?;
     put(out, &counts)
 }
 
@@ -105,7 +142,7 @@ pub fn survey_command<R: Threads + Wait + Sync, H: Host>(
         None => {
             let mut out = MemorySink::new(alloc);
             let ledger = counted(rt, alloc, options, host, &mut out, false)?;
-            Ok(survey_answer(alloc, &ledger, false)?)
+            Ok(counts_answer(alloc, options.complete, &ledger, false)?)
         }
     }
 }

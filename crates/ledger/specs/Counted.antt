@@ -2,6 +2,7 @@
 use Rattle.std.specs.Prelude.{◌++◌, ◌∷◌, [], ◌==◌, ℕ, zero, suc, List, Option, None, Some, codes, decimal, length}
 use Rattle.std.specs.Prelude.{slice_index, if◌then◌else◌}
 use Rattle.ledger.specs.declared.ledger.Ledger.{Ledger}
+use Rattle.ledger.specs.declared.survey_ledger.SurveyLedger.{SurveyLedger}
 
 -- the line of how many there are of a kind
 abbrev pub count_line : List ℕ → ℕ → List ℕ
@@ -43,3 +44,25 @@ abbrev pub survey_text : Ledger → List ℕ
 survey_text l =
     ledger_text (codes "recordings") (codes "refused") (codes "recording") l
     ++ first_line (codes "refused") (codes "recording") l.first_unjudged
+
+-- how many recordings a survey of values has, and how many of them have an order or are impossible
+abbrev pub values_counts : SurveyLedger → List ℕ
+values_counts s =
+    count_line (codes "recordings") s.ledger.total ++ count_line (codes "ordered") s.ledger.ordered
+    ++ count_line (codes "impossible") (slice_index s.ledger.cycles.items 0)
+
+-- how many of them are unfinished or unread
+abbrev pub unjudged_counts : SurveyLedger → List ℕ
+unjudged_counts s =
+    count_line (codes "unfinished") s.unfinished.count ++ count_line (codes "unread") s.unread.count
+
+-- the first of each kind but the orders
+abbrev pub values_firsts : SurveyLedger → List ℕ
+values_firsts s =
+    first_line (codes "impossible") (codes "recording") s.ledger.first
+    ++ first_line (codes "unfinished") (codes "recording") s.unfinished.first
+    ++ first_line (codes "unread") (codes "recording") s.unread.first
+
+-- that of a survey of values
+abbrev pub values_survey_text : SurveyLedger → List ℕ
+values_survey_text s = values_counts s ++ unjudged_counts s ++ values_firsts s

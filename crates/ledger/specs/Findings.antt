@@ -1,13 +1,13 @@
--- What is found of recordings, and its code.
+-- What is found of recordings and of values, and its code.
 use Rattle.std.specs.Prelude.{◌+◌, ◌*◌, ◌≤◌, ℕ, ⊤, length}
 use Rattle.common.specs.declared.limits.TheConstants.{MAX_EVENTS}
 use Rattle.recording.specs.declared.fault.RecError.{RecError}
 use Rattle.recording.specs.declared.fault.RecError.TheVariants as refusals
 use Rattle.verdicts.specs.declared.verdict.Verdict.{Verdict}
 use Rattle.verdicts.specs.declared.verdict.Verdict.TheVariants as verdicts
-use Rattle.ledger.specs.declared.code.TheConstants.{ORDERED, CYCLE, REFUSED, OVERLOOK, LOAD}
+use Rattle.ledger.specs.declared.code.TheConstants.{UNFINISHED, ORDERED, IMPOSSIBLE, CYCLE, REFUSED, OVERLOOK, LOAD}
 use Rattle.ledger.specs.declared.finding.Finding.{Finding}
-use Rattle.ledger.specs.declared.finding.Finding.TheVariants.{Ordered, Overlook, Cycle, Refused}
+use Rattle.ledger.specs.declared.finding.Finding.TheVariants.{Ordered, Overlook, Cycle, Impossible, Unfinished, Refused}
 
 -- a cycle has no more events than a recording may have
 abbrev pub IsShortVerdict : Verdict → Type 0
@@ -32,9 +32,12 @@ refusal_code (refusals.Value e) = REFUSED * 6 + e
 refusal_code (refusals.WriteList a) = REFUSED * 7 + a
 refusal_code refusals.OutOfMemory = 0
 
--- the code of what is found: an order, the load and the store, the length of the cycle, or the refusal
+-- the code of what is found: an order, the load and the store, the length of the cycle, what values come to, or the
+-- refusal
 abbrev pub finding_code : Finding → ℕ
 finding_code Ordered = ORDERED
 finding_code (Overlook load store) = OVERLOOK + LOAD * load + store
 finding_code (Cycle n) = CYCLE + n
+finding_code Impossible = IMPOSSIBLE
+finding_code Unfinished = UNFINISHED
 finding_code (Refused refusal) = refusal_code refusal

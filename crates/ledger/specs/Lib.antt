@@ -6,3 +6,5 @@ pub mod Joined
 pub mod LedgerLaws
 pub mod Real
 pub mod Counted
+pub mod Surveyed
+pub mod SurveyedLaws

@@ -1,10 +1,12 @@
 //! The texts of ledgers.
 
-ghost use Rattle.std.specs.Prelude.{◌≡◌, ◌++◌, IfOk, OnOk, Some, length};
+ghost use Rattle.std.specs.Prelude.{◌≡◌, ◌++◌, IfOk, OnOk, Some, length, slice_index};
 ghost use Rattle.ledger.specs.Counted.{campaign_text, count_line, cycle_line, cycle_lines, first_line};
 ghost use Rattle.ledger.specs.Counted.{ledger_text, place_name, survey_text};
+ghost use Rattle.ledger.specs.Counted.{unjudged_counts, values_counts, values_firsts, values_survey_text};
 
 use crate::ledger::Ledger;
+use crate::survey_ledger::SurveyLedger;
 use common::OutOfMemory;
 use std::alloc::Global;
 use texts::put_number;
@@ -115,5 +117,53 @@ pub fn survey_text(alloc: Global, ledger: &Ledger) -> Result<Vec<u8>, OutOfMemor
 {
     let mut out = ledger_text(alloc, b"recordings", b"refused", b"recording", ledger)?;
     put_first(&mut out, b"refused", b"recording", ledger.first_unjudged)?;
+    Ok(out)
+}
+
+/// How many codes say that values are impossible.
+fn impossible_count(ledger: &Ledger) -> usize
+    ensures { result ≡ slice_index ledger.now.cycles.items 0 }
+{
+    match ledger.cycles.get(0) {
+        Some(count) => *count,
+        None => 0,
+    }
+}
+
+/// Adds how many recordings a survey of values has, and how many of them have an order or are impossible.
+fn put_values_counts(out: &mut Vec<u8>, survey: &SurveyLedger) -> Result<(), OutOfMemory>
+    ensures { OnOk result (out.new.items ≡ out.old.items ++ values_counts survey.now) }
+{
+    put_count(out, b"recordings", survey.ledger.total)?;
+    put_count(out, b"ordered", survey.ledger.ordered)?;
+    put_count(out, b"impossible", impossible_count(&survey.ledger))
+}
+
+/// Adds how many of them are unfinished or unread.
+fn put_unjudged_counts(out: &mut Vec<u8>, survey: &SurveyLedger) -> Result<(), OutOfMemory>
+    ensures { OnOk result (out.new.items ≡ out.old.items ++ unjudged_counts survey.now) }
+{
+    put_count(out, b"unfinished", survey.unfinished.count)?;
+    put_count(out, b"unread", survey.unread.count)
+}
+
+/// Adds the first of each kind but the orders.
+fn put_values_firsts(out: &mut Vec<u8>, survey: &SurveyLedger) -> Result<(), OutOfMemory>
+    ensures { OnOk result (out.new.items ≡ out.old.items ++ values_firsts survey.now) }
+{
+    put_first(out, b"impossible", b"recording", survey.ledger.first)?;
+    put_first(out, b"unfinished", b"recording", survey.unfinished.first)?;
+    put_first(out, b"unread", b"recording", survey.unread.first)
+}
+
+/// The text of a survey of values: how many recordings there are and of which kinds, and the first of each kind but the
+/// orders. Fails only if out of memory.
+pub fn values_survey_text(alloc: Global, survey: &SurveyLedger) -> Result<Vec<u8>, OutOfMemory>
+    ensures { IfOk result (λ text. text.items ≡ values_survey_text survey.now) }
+{
+    let mut out = Vec::new(alloc);
+    put_values_counts(&mut out, survey)?;
+    put_unjudged_counts(&mut out, survey)?;
+    put_values_firsts(&mut out, survey)?;
     Ok(out)
 }

@@ -1,17 +1,17 @@
-//! What is found of recordings.
+//! What is found of recordings and of values.
 
 ghost use Rattle.std.specs.Prelude.{◌≡◌};
 ghost use Rattle.ledger.specs.Findings.{refusal_code};
 
-use crate::code::{CYCLE, LOAD, ORDERED, OVERLOOK, REFUSED};
+use crate::code::{CYCLE, IMPOSSIBLE, LOAD, ORDERED, OVERLOOK, REFUSED, UNFINISHED};
 use common::EventId;
 use recording::RecError;
 use verdicts::Verdict;
 
-/// What is found of a recording: which verdict there is on it, or why it is refused.
+/// What is found of a recording, or of values: which verdict there is on it, what they come to, or why it is refused.
 #[derive(Clone, Copy, Debug, Drop, PartialEq, Eq)]
 pub enum Finding {
-    /// It has an order.
+    /// It has an order, or they have one.
     Ordered,
     /// It has overlooks, and this is the least one.
     Overlook {
@@ -22,6 +22,10 @@ pub enum Finding {
     },
     /// It has no overlook, and a least cycle of this length.
     Cycle(u16),
+    /// TSO does not allow the values.
+    Impossible,
+    /// It was not found out whether TSO allows the values.
+    Unfinished,
     /// It is refused.
     Refused(RecError),
 }
@@ -45,7 +49,7 @@ impl Finding {
         }
     }
 
-    /// Its code: 3 of an order, 16 and the length of a cycle, 1,048,576 and 1,024 times the load and the store of
+    /// Its code: 2 of what is unfinished, 3 of an order, 16 of what is impossible, 16 and the length of a cycle, 1,048,576 and 1,024 times the load and the store of
     /// an overlook, 65,536 times 1 to 7 and the event or the address of a refusal by N1 to N7. Running out of
     /// memory, which is no refusal, has 0.
     pub fn code(&self) -> u64
@@ -57,6 +61,8 @@ impl Finding {
                 OVERLOOK + LOAD * u64::from(*load) + u64::from(*store)
             }
             Finding::Cycle(length) => CYCLE + u64::from(*length),
+            Finding::Impossible => IMPOSSIBLE,
+            Finding::Unfinished => UNFINISHED,
             Finding::Refused(refusal) => refusal_code(*refusal),
         }
     }

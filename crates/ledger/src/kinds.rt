@@ -1,9 +1,9 @@
 //! Kinds of codes.
 
 ghost use Rattle.std.specs.Prelude.{◌≡◌};
-ghost use Rattle.ledger.specs.Kinds.{is_cycle, is_violation, is_unjudged};
+ghost use Rattle.ledger.specs.Kinds.{is_cycle, is_unfinished, is_unjudged, is_unread, is_violation};
 
-use crate::code::{CYCLE, ORDERED, OVERLOOK};
+use crate::code::{CYCLE, ORDERED, OVERLOOK, UNFINISHED};
 use common::MAX_EVENTS;
 
 /// Whether it is the code of a cycle.
@@ -25,4 +25,18 @@ pub(crate) fn is_unjudged(code: u64) -> bool
     ensures { result ≡ is_unjudged code }
 {
     code != ORDERED && !is_violation(code)
+}
+
+/// Whether it is the code of what is unfinished.
+pub(crate) fn is_unfinished(code: u64) -> bool
+    ensures { result ≡ is_unfinished code }
+{
+    code == UNFINISHED
+}
+
+/// Whether it is the code of what has no verdict and is not unfinished: of what is refused.
+pub(crate) fn is_unread(code: u64) -> bool
+    ensures { result ≡ is_unread code }
+{
+    is_unjudged(code) && !is_unfinished(code)
 }

@@ -138,7 +138,7 @@ fn count_cycles(counts: &mut [usize], codes: &[u64])
 }
 
 /// The first place of two lists, of which the first has this many items.
-fn first_of(first: Option<usize>, length: usize, other: Option<usize>) -> Option<usize>
+pub(crate) fn first_of(first: Option<usize>, length: usize, other: Option<usize>) -> Option<usize>
     requires { IfSome other (λ k. length + k < 2 ^ 64) }
     ensures { result ≡ first_of first length other }
 {

@@ -1,4 +1,4 @@
-//! What is found of recordings, its codes, and ledgers of codes with their texts.
+//! What is found of recordings and of values, its codes, and ledgers of codes with their texts.
 #![tactic(auto)]
 
 mod code;
@@ -8,10 +8,12 @@ mod fitting;
 mod kinds;
 mod law;
 mod ledger;
+mod survey_ledger;
 
-pub use code::{CYCLE, LOAD, ORDERED, OVERLOOK, REFUSED, UNFINISHED};
-pub use counted::{campaign_text, survey_text};
+pub use code::{CYCLE, IMPOSSIBLE, LOAD, ORDERED, OVERLOOK, REFUSED, UNFINISHED};
+pub use counted::{campaign_text, survey_text, values_survey_text};
 pub use finding::Finding;
 pub use kinds::is_violation;
 pub use law::ledgers_add_up;
 pub use ledger::Ledger;
+pub use survey_ledger::{KindCount, SurveyLedger};

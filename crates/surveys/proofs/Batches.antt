@@ -4,9 +4,10 @@ use Rattle.std.proofs.Common.{◌∙◌, append_assoc, append-nil, drop, length,
 use Rattle.std.proofs.KnownBytes.{Appends-nil, Consumes-nil}
 use Rattle.std.proofs.lemmas.List.{length-take, take_all}
 use Rattle.std.proofs.Math.Seq.{drop-append-add}
-use Rattle.ledger.specs.declared.ledger.Ledger.{Ledger}
-use Rattle.ledger.specs.Counts.{IsLedger}
-use Rattle.ledger.specs.Joined.{CanJoin, IsJoined}
+use Rattle.ledger.specs.declared.survey_ledger.SurveyLedger.{SurveyLedger}
+use Rattle.ledger.specs.Surveyed.{IsSurveyLedger}
+use Rattle.ledger.specs.Surveyed.{CanJoinSurveys, AreJoinedSurveys}
+use Rattle.surveys.specs.declared.kind.LineKind.{LineKind}
 use Rattle.surveys.specs.Coded.{AreLineCodes}
 use Rattle.surveys.specs.Lines.{IsWhole, lines}
 use Rattle.surveys.specs.Surveys.{ExtendsSurvey, IsSurveyOfRead}
@@ -15,27 +16,29 @@ use Rattle.surveys.proofs.Blocks.{all_read}
 use Rattle.surveys.proofs.Found.{part_joined, part_joins}
 use Rattle.surveys.proofs.Tallied.{grown, up_to_front}
 
-module _ (l m : Ledger) (n : ℕ) (batch codes : List ℕ) (coded : AreLineCodes batch codes) (counted : IsLedger codes m) where
+module _ (kind : LineKind) (l m : SurveyLedger) (n : ℕ) (batch codes : List ℕ)
+    (coded : AreLineCodes kind batch codes) (counted : IsSurveyLedger codes m) where
   -- the codes of a batch can be counted
-  pub batch_joins : (front : List ℕ) (start now : Option (List ℕ)) → IsTally false front l n start now
-      → n + length batch < 2 ^ 64 → CanJoin l m
+  pub batch_joins : (front : List ℕ) (start now : Option (List ℕ)) → IsTally kind false front l n start now
+      → n + length batch < 2 ^ 64 → CanJoinSurveys l m
   batch_joins front start now tally few =
-      part_joins (front ++ batch) batch [] (lines batch) coded.findings l false start now
-      (up_to_front false front batch l n start now tally) (sym (append-nil (lines batch))) coded.found m
-      (subst (λ (cs : List ℕ). IsLedger cs m) coded.are counted)
+      part_joins kind (front ++ batch) batch [] (lines batch) coded.findings l false start now
+      (up_to_front kind false front batch l n start now tally) (sym (append-nil (lines batch))) coded.found m
+      (subst (λ (cs : List ℕ). IsSurveyLedger cs m) coded.are counted)
       (omega (arith, tally.size, length-append front batch, few))
 
   -- and are then tallied
-  pub batch_tallied : (both : Ledger) (k : ℕ) (bytes rest : List ℕ) (w : Option (List ℕ)) → bytes ≡ batch ++ rest
-      → IsWhole batch → k ≡ n + length batch → IsJoined l m both → IsTallied false bytes rest l n w both k w
+  pub batch_tallied : (both : SurveyLedger) (k : ℕ) (bytes rest : List ℕ) (w : Option (List ℕ)) → bytes ≡ batch ++ rest
+      → IsWhole batch → k ≡ n + length batch → AreJoinedSurveys l m both
+      → IsTallied kind false bytes rest l n w both k w
   batch_tallied both k bytes rest w cut whole size join =
-      let on : ExtendsSurvey batch [] false l w both w = λ all start so_far.
-      part_joined all batch [] (lines batch) coded.findings l false start w so_far (sym (append-nil (lines batch)))
-      coded.found m both w (subst (λ (cs : List ℕ). IsLedger cs m) coded.are counted) join (Appends-nil w) in
+      let on : ExtendsSurvey kind batch [] false l w both w = λ all start so_far.
+      part_joined kind all batch [] (lines batch) coded.findings l false start w so_far (sym (append-nil (lines batch)))
+      coded.found m both w (subst (λ (cs : List ℕ). IsSurveyLedger cs m) coded.are counted) join (Appends-nil w) in
       record {
         more = batch;
         cut = cut;
-        grows = λ front start tally. grown false front batch l both n k start w w tally on size whole;
+        grows = λ front start tally. grown kind false front batch l both n k start w w tally on size whole;
       }
 
 -- what is whole to its end
@@ -55,44 +58,50 @@ dropped from n bytes within =
     (drop-append-add front rest n))
 
 -- no batch is tallied
-pub none_tallied : (each : Bool) (bytes : List ℕ) (l : Ledger) (n : ℕ) (w : Option (List ℕ))
-    → IsTallied each bytes bytes l n w l n w
-none_tallied each bytes l n w = record {
+pub none_tallied : (kind : LineKind) (each : Bool) (bytes : List ℕ) (l : SurveyLedger) (n : ℕ) (w : Option (List ℕ))
+    → IsTallied kind each bytes bytes l n w l n w
+none_tallied kind each bytes l n w = record {
   more = [];
   cut = refl;
-  grows = λ front start tally. subst (λ (t : List ℕ). IsTally each t l n start w) (sym (append-nil front)) tally;
+  grows = λ front start tally. subst (λ (t : List ℕ). IsTally kind each t l n start w) (sym (append-nil front)) tally;
 }
 
 -- one more is tallied
-pub more_tallied : (each : Bool) (bytes rest after : List ℕ) (l m o : Ledger) (n k j : ℕ) (u v w : Option (List ℕ))
-    → IsTallied each bytes rest l n u m k v → IsTallied each rest after m k v o j w
-    → IsTallied each bytes after l n u o j w
-more_tallied each bytes rest after l m o n k j u v w first then = record {
+pub more_tallied : (kind : LineKind) (each : Bool) (bytes rest after : List ℕ) (l m o : SurveyLedger) (n k j : ℕ)
+    (u v w : Option (List ℕ))
+    → IsTallied kind each bytes rest l n u m k v → IsTallied kind each rest after m k v o j w
+    → IsTallied kind each bytes after l n u o j w
+more_tallied kind each bytes rest after l m o n k j u v w first then = record {
   more = first.more ++ then.more;
   cut = first.cut ∙ (ap (λ (t : List ℕ). first.more ++ t) then.cut ∙ sym (append_assoc first.more then.more after));
-  grows = λ front start tally. subst (λ (t : List ℕ). IsTally each t o j start w)
+  grows = λ front start tally. subst (λ (t : List ℕ). IsTally kind each t o j start w)
       (append_assoc front first.more then.more)
       (then.grows (front ++ first.more) start (first.grows front start tally));
 }
 
 -- from this place on
-pub tallied_from : (bytes part : List ℕ) (from n : ℕ) (l m o : Ledger) (i k j : ℕ) (w : Option (List ℕ))
-    → from ≤ length bytes → part ≡ drop from bytes → IsTallied false bytes (drop from bytes) l i w m k w
-    → IsTallied false part (drop n part) m k w o j w → IsTallied false bytes (drop (from + n) bytes) l i w o j w
-tallied_from bytes part from n l m o i k j w within same first then =
-    more_tallied false bytes (drop from bytes) (drop (from + n) bytes) l m o i k j w w w first
-    (subst (λ (after : List ℕ). IsTallied false (drop from bytes) after m k w o j w) (sym (dropped from n bytes within))
-    (subst (λ (b : List ℕ). IsTallied false b (drop n b) m k w o j w) same then))
+pub tallied_from : (kind : LineKind) (bytes part : List ℕ) (from n : ℕ) (l m o : SurveyLedger) (i k j : ℕ)
+    (w : Option (List ℕ))
+    → from ≤ length bytes → part ≡ drop from bytes → IsTallied kind false bytes (drop from bytes) l i w m k w
+    → IsTallied kind false part (drop n part) m k w o j w
+    → IsTallied kind false bytes (drop (from + n) bytes) l i w o j w
+tallied_from kind bytes part from n l m o i k j w within same first then =
+    more_tallied kind false bytes (drop from bytes) (drop (from + n) bytes) l m o i k j w w w first
+    (subst (λ (after : List ℕ). IsTallied kind false (drop from bytes) after m k w o j w) (sym (dropped from n bytes
+    within))
+    (subst (λ (b : List ℕ). IsTallied kind false b (drop n b) m k w o j w) same then))
 
 -- what is tallied so far goes on where the tally is
-pub tally_on : (bytes rest front : List ℕ) (l m : Ledger) (n k : ℕ) (start now : Option (List ℕ))
-    → IsTally false front l n start now → IsTallied false bytes rest l n now m k now
-    → (f : List ℕ) × (s : Option (List ℕ)) × (w : Option (List ℕ)) × IsTally false f m k s w
-tally_on bytes rest front l m n k start now tally tallied =
+pub tally_on : (kind : LineKind) (bytes rest front : List ℕ) (l m : SurveyLedger) (n k : ℕ)
+    (start now : Option (List ℕ))
+    → IsTally kind false front l n start now → IsTallied kind false bytes rest l n now m k now
+    → (f : List ℕ) × (s : Option (List ℕ)) × (w : Option (List ℕ)) × IsTally kind false f m k s w
+tally_on kind bytes rest front l m n k start now tally tallied =
     (front ++ tallied.more, start, now, tallied.grows front start tally)
 
 -- the last bytes are counted
-pub all_ended : (each : Bool) (u v s t o : Option (List ℕ)) (l m : Ledger) (n : ℕ) (block : List ℕ)
-    → IsUnderWay each u v l n block s t → Ends each block l n t m o → IsSurveyOfRead u v m each s o
-all_ended each u v s t o l m n block way ends =
-    all_read each u v v s t l n block block way ([], Consumes-nil v, sym (append-nil block)) m o ends
+pub all_ended : (kind : LineKind) (each : Bool) (u v s t o : Option (List ℕ)) (l m : SurveyLedger) (n : ℕ)
+    (block : List ℕ)
+    → IsUnderWay kind each u v l n block s t → Ends kind each block l n t m o → IsSurveyOfRead kind u v m each s o
+all_ended kind each u v s t o l m n block way ends =
+    all_read kind each u v v s t l n block block way ([], Consumes-nil v, sym (append-nil block)) m o ends

@@ -4,20 +4,22 @@ use Rattle.std.proofs.Common.{◌∙◌, append_assoc, append-nil, length, lengt
 use Rattle.std.proofs.KnownBytes.{Consumes-nil, Consumes-trans}
 use Rattle.std.specs.Io.KnownBytes.{Consumes, IsAtEnd}
 use Rattle.devices.specs.Bytes.{Gathers}
-use Rattle.ledger.specs.declared.ledger.Ledger.{Ledger}
-use Rattle.ledger.specs.Counts.{IsLedger}
+use Rattle.ledger.specs.declared.survey_ledger.SurveyLedger.{SurveyLedger}
+use Rattle.ledger.specs.Surveyed.{IsSurveyLedger}
+use Rattle.surveys.specs.declared.kind.LineKind.{LineKind}
 use Rattle.surveys.proofs.LineLemmas.{whole_nil}
 use Rattle.surveys.specs.Surveys.{IsSurvey, IsSurveyOfRead}
 use Rattle.surveys.specs.Tallies.{IsTallied, IsUnderWay, Ends}
 use Rattle.surveys.proofs.Found.{none_counted}
 
 -- before the first block
-pub begun : (each : Bool) (u s : Option (List ℕ)) (l : Ledger) → IsLedger [] l → IsUnderWay each u u l 0 [] s s
-begun each u s l none = record {
+pub begun : (kind : LineKind) (each : Bool) (u s : Option (List ℕ)) (l : SurveyLedger) → IsSurveyLedger [] l
+    → IsUnderWay kind each u u l 0 [] s s
+begun kind each u s l none = record {
   front = [];
   tally = record {
     whole = whole_nil;
-    survey = none_counted l each s none;
+    survey = none_counted kind l each s none;
     size = refl;
   };
   read = Consumes-nil u;
@@ -31,11 +33,11 @@ filled u v w front old new read gathered =
     ∙ ap (λ (t : List ℕ). front ++ t) (sym gathered.2))
     (Consumes-trans u v w (front ++ old) gathered.0 read gathered.1)
 
-module _ (each : Bool) (u v w s t : Option (List ℕ)) (l : Ledger) (n : ℕ) (old block : List ℕ)
-    (way : IsUnderWay each u v l n old s t) (gathered : Gathers v w old block) where
+module _ (kind : LineKind) (each : Bool) (u v w s t : Option (List ℕ)) (l : SurveyLedger) (n : ℕ) (old block : List ℕ)
+    (way : IsUnderWay kind each u v l n old s t) (gathered : Gathers v w old block) where
   -- a block more was filled and tallied
-  pub gone_on : (m : Ledger) (k : ℕ) (rest : List ℕ) (o : Option (List ℕ))
-      → IsTallied each block rest l n t m k o → IsUnderWay each u w m k rest s o
+  pub gone_on : (m : SurveyLedger) (k : ℕ) (rest : List ℕ) (o : Option (List ℕ))
+      → IsTallied kind each block rest l n t m k o → IsUnderWay kind each u w m k rest s o
   gone_on m k rest o tallied = record {
     front = way.front ++ tallied.more;
     tally = tallied.grows way.front s way.tally;
@@ -44,8 +46,8 @@ module _ (each : Bool) (u v w s t : Option (List ℕ)) (l : Ledger) (n : ℕ) (o
   }
 
   -- no byte was lost
-  pub same_size : (m : Ledger) (k : ℕ) (rest : List ℕ) (o : Option (List ℕ))
-      → IsTallied each block rest l n t m k o → k + length rest ≡ n + length block
+  pub same_size : (m : SurveyLedger) (k : ℕ) (rest : List ℕ) (o : Option (List ℕ))
+      → IsTallied kind each block rest l n t m k o → k + length rest ≡ n + length block
   same_size m k rest o tallied = omega (
     arith,
     (tallied.grows way.front s way.tally).size,
@@ -56,7 +58,8 @@ module _ (each : Bool) (u v w s t : Option (List ℕ)) (l : Ledger) (n : ℕ) (o
   )
 
   -- the last block was filled and counted
-  pub all_read : (m : Ledger) (o : Option (List ℕ)) → Ends each block l n t m o → IsSurveyOfRead u w m each s o
+  pub all_read : (m : SurveyLedger) (o : Option (List ℕ)) → Ends kind each block l n t m o
+      → IsSurveyOfRead kind u w m each s o
   all_read m o ends = record {
     bytes = way.front ++ block;
     read = filled u v w way.front old block way.read gathered;
@@ -64,9 +67,9 @@ module _ (each : Bool) (u v w s t : Option (List ℕ)) (l : Ledger) (n : ℕ) (o
   }
 
 -- where the bytes are known, they are all that were read
-pub all_known : (u v : Option (List ℕ)) (l : Ledger) (each : Bool) (s t : Option (List ℕ))
-    → IsSurveyOfRead u v l each s t → IsAtEnd v → IfSome u (λ bytes. IsSurvey bytes l each s t)
-all_known None v l each s t is end = tt
-all_known (Some xs) None l each s t is end = absurd is.read
-all_known (Some xs) (Some ys) l each s t is end = subst (λ (bytes : List ℕ). IsSurvey bytes l each s t)
+pub all_known : (kind : LineKind) (u v : Option (List ℕ)) (l : SurveyLedger) (each : Bool) (s t : Option (List ℕ))
+    → IsSurveyOfRead kind u v l each s t → IsAtEnd v → IfSome u (λ bytes. IsSurvey kind bytes l each s t)
+all_known kind None v l each s t is end = tt
+all_known kind (Some xs) None l each s t is end = absurd is.read
+all_known kind (Some xs) (Some ys) l each s t is end = subst (λ (bytes : List ℕ). IsSurvey kind bytes l each s t)
     (sym (is.read ∙ (ap (λ (x : List ℕ). is.bytes ++ x) end ∙ append-nil is.bytes))) is.survey

@@ -6,11 +6,12 @@ use Rattle.std.proofs.KnownBytes.{Appends-nil, Appends-trans}
 use Rattle.std.specs.Io.KnownBytes.{Appends}
 use Rattle.std.proofs.lemmas.List.{append_assoc, append-nil, map-append, length-map}
 use Rattle.ledger.specs.declared.finding.Finding.{Finding}
-use Rattle.ledger.specs.declared.ledger.Ledger.{Ledger}
-use Rattle.ledger.specs.Counts.{IsLedger}
+use Rattle.ledger.specs.declared.survey_ledger.SurveyLedger.{SurveyLedger}
+use Rattle.ledger.specs.Surveyed.{IsSurveyLedger}
 use Rattle.ledger.specs.Findings.{finding_code}
-use Rattle.ledger.specs.Joined.{CanJoin, IsJoined}
-use Rattle.ledger.specs.LedgerLaws.{joined}
+use Rattle.ledger.specs.Surveyed.{CanJoinSurveys, AreJoinedSurveys}
+use Rattle.ledger.specs.SurveyedLaws.{joined_surveys}
+use Rattle.surveys.specs.declared.kind.LineKind.{LineKind}
 use Rattle.surveys.specs.Claims.{AreFoundBelow}
 use Rattle.surveys.specs.Found.{AreFindings, codes_of}
 use Rattle.surveys.proofs.LineLemmas.{few_lines}
@@ -20,30 +21,32 @@ use Rattle.surveys.specs.Each.{each_text}
 use Rattle.surveys.proofs.EachText.{each_append}
 
 -- what is found in every line
-pub all_found : (ls : List (Bor (List ℕ))) (fs : List Finding) → length fs ≡ length ls
-    → AreFoundBelow ls (length ls) fs → AreFindings (map (λ l. l.now) ls) fs
-all_found [] [] size each = tt
-all_found [] (f ∷ fs) size each = absurd (omega (arith, size))
-all_found (l ∷ ls) [] size each = absurd (omega (arith, size))
-all_found (l ∷ ls) (f ∷ fs) size each = (
+pub all_found : (kind : LineKind) (ls : List (Bor (List ℕ))) (fs : List Finding) → length fs ≡ length ls
+    → AreFoundBelow kind ls (length ls) fs → AreFindings kind (map (λ l. l.now) ls) fs
+all_found kind [] [] size each = tt
+all_found kind [] (f ∷ fs) size each = absurd (omega (arith, size))
+all_found kind (l ∷ ls) [] size each = absurd (omega (arith, size))
+all_found kind (l ∷ ls) (f ∷ fs) size each = (
   each 0 l f (omega arith),
-  all_found ls fs (omega (arith, size)) (λ i d e low. each (suc i) d e (omega (arith, low))),
+  all_found kind ls fs (omega (arith, size)) (λ i d e low. each (suc i) d e (omega (arith, low))),
 )
 
 -- what is found in lines and in more lines
-pub findings_append : (ls ms : List (List ℕ)) (xs ys : List Finding) → AreFindings ls xs → AreFindings ms ys
-    → AreFindings (ls ++ ms) (xs ++ ys)
-findings_append [] ms [] ys a b = b
-findings_append [] ms (x ∷ xs) ys a b = absurd a
-findings_append (l ∷ ls) ms [] ys a b = absurd a
-findings_append (l ∷ ls) ms (x ∷ xs) ys a b = (a.0, findings_append ls ms xs ys a.1 b)
+pub findings_append : (kind : LineKind) (ls ms : List (List ℕ)) (xs ys : List Finding) → AreFindings kind ls xs
+    → AreFindings kind ms ys
+    → AreFindings kind (ls ++ ms) (xs ++ ys)
+findings_append kind [] ms [] ys a b = b
+findings_append kind [] ms (x ∷ xs) ys a b = absurd a
+findings_append kind (l ∷ ls) ms [] ys a b = absurd a
+findings_append kind (l ∷ ls) ms (x ∷ xs) ys a b = (a.0, findings_append kind ls ms xs ys a.1 b)
 
 -- as much as there are lines
-findings_length : (ls : List (List ℕ)) (xs : List Finding) → AreFindings ls xs → length xs ≡ length ls
-findings_length [] [] a = omega arith
-findings_length [] (x ∷ xs) a = absurd a
-findings_length (l ∷ ls) [] a = absurd a
-findings_length (l ∷ ls) (x ∷ xs) a = omega (arith, findings_length ls xs a.1)
+findings_length : (kind : LineKind) (ls : List (List ℕ)) (xs : List Finding) → AreFindings kind ls xs
+    → length xs ≡ length ls
+findings_length kind [] [] a = omega arith
+findings_length kind [] (x ∷ xs) a = absurd a
+findings_length kind (l ∷ ls) [] a = absurd a
+findings_length kind (l ∷ ls) (x ∷ xs) a = omega (arith, findings_length kind ls xs a.1)
 
 -- what is told of two lists
 told_append : (each : Bool) (xs ys : List Finding) → told_text each 0 (xs ++ ys)
@@ -52,16 +55,18 @@ told_append false xs ys = refl
 told_append true xs ys = each_append 0 xs ys ∙ ap (λ (n : ℕ). each_text 0 xs ++ each_text n ys) (omega arith)
 
 -- a survey counts as many as there are lines
-survey_size : (ls : List (List ℕ)) (l : Ledger) (each : Bool) (u v : Option (List ℕ)) (s : IsSurveyOfLines ls l each u v)
-    → (l.total ≡ length s.findings) × (length s.findings ≡ length ls)
-survey_size ls l each u v s = (
-  s.counted.total ∙ length-map s.findings finding_code,
-  findings_length ls s.findings s.found,
+survey_size : (kind : LineKind) (ls : List (List ℕ)) (l : SurveyLedger) (each : Bool) (u v : Option (List ℕ))
+    (s : IsSurveyOfLines kind ls l each u v)
+    → (l.ledger.total ≡ length s.findings) × (length s.findings ≡ length ls)
+survey_size kind ls l each u v s = (
+  s.counted.ledger.total ∙ length-map s.findings finding_code,
+  findings_length kind ls s.findings s.found,
 )
 
 -- before the first line
-pub none_counted : (l : Ledger) (each : Bool) (u : Option (List ℕ)) → IsLedger [] l → IsSurvey [] l each u u
-none_counted l each u none = record {
+pub none_counted : (kind : LineKind) (l : SurveyLedger) (each : Bool) (u : Option (List ℕ)) → IsSurveyLedger [] l
+    → IsSurvey kind [] l each u u
+none_counted kind l each u none = record {
   findings = [];
   found = tt;
   counted = none;
@@ -72,18 +77,19 @@ none_counted l each u none = record {
     nothing false = Appends-nil u
     nothing true = Appends-nil u
 
-module _ (all bytes rest : List ℕ) (ls : List (List ℕ)) (fs : List Finding) (l : Ledger) (each : Bool)
-    (u v : Option (List ℕ)) (so_far : IsSurveyUpTo all bytes l each u v) (cut : IsCut bytes ls rest)
-    (found : AreFindings ls fs) where
+module _ (kind : LineKind) (all bytes rest : List ℕ) (ls : List (List ℕ)) (fs : List Finding) (l : SurveyLedger)
+    (each : Bool)
+    (u v : Option (List ℕ)) (so_far : IsSurveyUpTo kind all bytes l each u v) (cut : IsCut bytes ls rest)
+    (found : AreFindings kind ls fs) where
   -- there are no more lines than bytes
-  pub few_found : l.total + length fs ≤ length all
+  pub few_found : l.ledger.total + length fs ≤ length all
   few_found =
-      let size = survey_size so_far.front l each u v so_far.survey in
+      let size = survey_size kind so_far.front l each u v so_far.survey in
       omega (
         arith,
         size.0,
         size.1,
-        findings_length ls fs found,
+        findings_length kind ls fs found,
         few_lines all,
         ap (λ (parts : List (List ℕ)). length parts) so_far.cut,
         length-append so_far.front (lines bytes),
@@ -92,7 +98,7 @@ module _ (all bytes rest : List ℕ) (ls : List (List ℕ)) (fs : List Finding) 
       )
 
   -- so their codes can be counted
-  pub part_joins : (m : Ledger) → IsLedger (codes_of fs) m → length all < 2 ^ 64 → CanJoin l m
+  pub part_joins : (m : SurveyLedger) → IsSurveyLedger (codes_of fs) m → length all < 2 ^ 64 → CanJoinSurveys l m
   part_joins m counted few = record {
     xs = codes_of so_far.survey.findings;
     ys = codes_of fs;
@@ -102,15 +108,16 @@ module _ (all bytes rest : List ℕ) (ls : List (List ℕ)) (fs : List Finding) 
       arith,
       length-map so_far.survey.findings finding_code,
       length-map fs finding_code,
-      (survey_size so_far.front l each u v so_far.survey).0,
+      (survey_size kind so_far.front l each u v so_far.survey).0,
       few_found,
       few,
     );
   }
 
   -- and are then surveyed
-  pub part_joined : (m both : Ledger) (w : Option (List ℕ)) → IsLedger (codes_of fs) m → IsJoined l m both
-      → Appends v w (told_text each l.total fs) → IsSurveyUpTo all rest both each u w
+  pub part_joined : (m both : SurveyLedger) (w : Option (List ℕ)) → IsSurveyLedger (codes_of fs) m
+      → AreJoinedSurveys l m both
+      → Appends v w (told_text each l.ledger.total fs) → IsSurveyUpTo kind all rest both each u w
   part_joined m both w counted join told =
       let old : List Finding = so_far.survey.findings in
       record {
@@ -119,18 +126,18 @@ module _ (all bytes rest : List ℕ) (ls : List (List ℕ)) (fs : List Finding) 
             ∙ sym (append_assoc so_far.front ls (lines rest)));
         survey = record {
           findings = old ++ fs;
-          found = findings_append so_far.front ls old fs so_far.survey.found found;
-          counted = subst (λ (codes : List ℕ). IsLedger codes both) (sym (map-append finding_code old fs))
-              (joined (codes_of old) (codes_of fs) l m both so_far.survey.counted counted join);
+          found = findings_append kind so_far.front ls old fs so_far.survey.found found;
+          counted = subst (λ (codes : List ℕ). IsSurveyLedger codes both) (sym (map-append finding_code old fs))
+              (joined_surveys (codes_of old) (codes_of fs) l m both so_far.survey.counted counted join);
           told = subst (λ (text : List ℕ). Appends u w text) (sym (told_append each old fs))
               (Appends-trans u v w (told_text each 0 old) (told_text each (length old) fs) so_far.survey.told
               (subst (λ (n : ℕ). Appends v w (told_text each n fs))
-              (survey_size so_far.front l each u v so_far.survey).0 told));
+              (survey_size kind so_far.front l each u v so_far.survey).0 told));
         };
       }
 
 -- up to nothing are all lines
-pub all_counted : (bytes : List ℕ) (l : Ledger) (each : Bool) (u v : Option (List ℕ))
-    → IsSurveyUpTo bytes [] l each u v → IsSurvey bytes l each u v
-all_counted bytes l each u v is = subst (λ (ls : List (List ℕ)). IsSurveyOfLines ls l each u v)
+pub all_counted : (kind : LineKind) (bytes : List ℕ) (l : SurveyLedger) (each : Bool) (u v : Option (List ℕ))
+    → IsSurveyUpTo kind bytes [] l each u v → IsSurvey kind bytes l each u v
+all_counted kind bytes l each u v is = subst (λ (ls : List (List ℕ)). IsSurveyOfLines kind ls l each u v)
     (sym (is.cut ∙ append-nil is.front)) is.survey

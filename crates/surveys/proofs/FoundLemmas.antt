@@ -25,6 +25,7 @@ use Rattle.ledger.specs.declared.finding.Finding.TheVariants.{Refused}
 use Rattle.ledger.specs.Counts.{IsLedger}
 use Rattle.ledger.specs.FindingLaws.{one_finding}
 use Rattle.ledger.specs.LedgerLaws.{one_ledger}
+use Rattle.surveys.specs.declared.kind.LineKind.TheVariants.{Recording}
 use Rattle.surveys.specs.Found.{IsLineResult, given_finding, AreFindings, codes_of}
 use Rattle.surveys.specs.Lines.{lines}
 use Rattle.surveys.specs.OneSurvey.{EveryLineHasOneFinding, EverySurveyCountsTheSame, EverySurveyTellsTheSame}
@@ -285,7 +286,8 @@ pub one_finding_of_line : EveryLineHasOneFinding
 one_finding_of_line bytes f g a b = a.finds ∙ (one_given bytes a.given b.given a.is_given b.is_given ∙ sym b.finds)
 
 -- one list in lines
-pub one_list : (ls : List (List ℕ)) (xs ys : List Finding) → AreFindings ls xs → AreFindings ls ys → xs ≡ ys
+pub one_list : (ls : List (List ℕ)) (xs ys : List Finding) → AreFindings Recording ls xs
+    → AreFindings Recording ls ys → xs ≡ ys
 one_list [] [] [] a b = refl
 one_list [] [] (y ∷ ys) a b = absurd b
 one_list [] (x ∷ xs) ys a b = absurd a
@@ -297,9 +299,9 @@ one_list (l ∷ ls) (x ∷ xs) (y ∷ ys) a b =
 
 -- so bytes have one ledger
 pub one_ledger_of_bytes : EverySurveyCountsTheSame
-one_ledger_of_bytes bytes l m each other s t u v a b = one_ledger (codes_of b.findings) l m
-    (subst (λ (fs : List Finding). IsLedger (codes_of fs) l)
-    (one_list (lines bytes) a.findings b.findings a.found b.found) a.counted) b.counted
+one_ledger_of_bytes bytes l m each other s t u v a b = one_ledger (codes_of b.findings) l.ledger m.ledger
+    (subst (λ (fs : List Finding). IsLedger (codes_of fs) l.ledger)
+    (one_list (lines bytes) a.findings b.findings a.found b.found) a.counted.ledger) b.counted.ledger
 
 -- and one text
 pub one_text_of_survey : EverySurveyTellsTheSame

@@ -5,7 +5,8 @@ use Rattle.std.proofs.Common.{append-nil, length-append, refl, sym, subst}
 use Rattle.std.proofs.KnownBytes.{Consumes-nil, Consumes-trans}
 use Rattle.std.specs.Io.KnownBytes.{Consumes}
 use Rattle.devices.specs.Bytes.{Gathers}
-use Rattle.ledger.specs.declared.ledger.Ledger.{Ledger}
+use Rattle.ledger.specs.declared.survey_ledger.SurveyLedger.{SurveyLedger}
+use Rattle.surveys.specs.declared.kind.LineKind.{LineKind}
 use Rattle.surveys.specs.declared.error.SurveyError.{SurveyError}
 use Rattle.surveys.specs.declared.error.SurveyError.TheVariants.{ReadFailed, WriteFailed, OutOfMemory, TooLong}
 use Rattle.surveys.specs.Shown.{IsReadBeforeLine, IsReadOn}
@@ -71,15 +72,17 @@ from_err (Ok x) e Is is same = tt
 from_err (Err x) e Is is same = subst Is (sym same) is
 
 -- while a source is surveyed
-pub long_way : (each : Bool) (u v w s t : Option (List ℕ)) (l : Ledger) (n : ℕ) (old block : List ℕ) (e : SurveyError)
-    → IsUnderWay each u v l n old s t → Gathers v w old block → IsLong e (n + length block) → IsLongRead e u w
-long_way each u v w s t l n old block e way gathered = long_read e u w (way.front ++ block) (n + length block)
+pub long_way : (kind : LineKind) (each : Bool) (u v w s t : Option (List ℕ)) (l : SurveyLedger) (n : ℕ)
+    (old block : List ℕ) (e : SurveyError)
+    → IsUnderWay kind each u v l n old s t → Gathers v w old block → IsLong e (n + length block) → IsLongRead e u w
+long_way kind each u v w s t l n old block e way gathered = long_read e u w (way.front ++ block) (n + length block)
     (filled u v w way.front old block way.read gathered)
     (omega (arith, way.tally.size, length-append way.front block))
 
-pub long_under : (each : Bool) (u w s t : Option (List ℕ)) (l : Ledger) (n : ℕ) (block : List ℕ) (e : SurveyError)
-    → IsUnderWay each u w l n block s t → IsLong e (n + length block) → IsLongRead e u w
-long_under each u w s t l n block e way = long_read e u w (way.front ++ block) (n + length block) way.read
+pub long_under : (kind : LineKind) (each : Bool) (u w s t : Option (List ℕ)) (l : SurveyLedger) (n : ℕ)
+    (block : List ℕ) (e : SurveyError)
+    → IsUnderWay kind each u w l n block s t → IsLong e (n + length block) → IsLongRead e u w
+long_under kind each u w s t l n block e way = long_read e u w (way.front ++ block) (n + length block) way.read
     (omega (arith, way.tally.size, length-append way.front block))
 
 -- so many bytes were read

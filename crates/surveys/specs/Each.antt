@@ -2,7 +2,7 @@
 use Rattle.std.specs.Prelude.{◌+◌, ◌++◌, ◌∷◌, [], ℕ, List, Option, None, Some, codes, decimal}
 use Rattle.recording.specs.declared.fault.RecError.{RecError}
 use Rattle.ledger.specs.declared.finding.Finding.{Finding}
-use Rattle.ledger.specs.declared.finding.Finding.TheVariants.{Ordered, Overlook, Cycle, Refused}
+use Rattle.ledger.specs.declared.finding.Finding.TheVariants.{Ordered, Overlook, Cycle, Impossible, Unfinished, Refused}
 use Rattle.verdicts.specs.Refusal.{recording_line}
 use Rattle.verdicts.specs.VerdictText.{overlook_line}
 
@@ -24,6 +24,8 @@ abbrev pub finding_line : Finding → List ℕ
 finding_line Ordered = codes "ordered" ++ 10 ∷ []
 finding_line (Overlook load store) = overlook_line load store
 finding_line (Cycle n) = cycle_length_line n
+finding_line Impossible = codes "impossible" ++ 10 ∷ []
+finding_line Unfinished = codes "unfinished" ++ 10 ∷ []
 finding_line (Refused refusal) = recording_refusal_line refusal
 
 -- the number of a recording and what is found in it

@@ -1,5 +1,5 @@
 -- What is found in lines.
-use Rattle.std.specs.Prelude.{◌≡◌, ◌≢◌, ℕ, List, Result, Ok, Err, map}
+use Rattle.std.specs.Prelude.{◌≡◌, ◌≢◌, ◌⊎◌, ℕ, List, Result, Ok, Err, map, ⊤}
 use Rattle.std.specs.List.{AllZip}
 use Rattle.recording.specs.Execution.{Execution}
 use Rattle.recording.specs.declared.fault.RecError.{RecError}
@@ -8,8 +8,12 @@ use Rattle.recorder.specs.Reading.{IsReadingResult}
 use Rattle.verdicts.specs.declared.verdict.Verdict.{Verdict}
 use Rattle.verdicts.specs.Judgement.{IsVerdict}
 use Rattle.ledger.specs.declared.finding.Finding.{Finding}
-use Rattle.ledger.specs.declared.finding.Finding.TheVariants.{Refused}
+use Rattle.ledger.specs.declared.finding.Finding.TheVariants.{Ordered, Impossible, Unfinished, Refused}
 use Rattle.ledger.specs.Findings.{finding_code, finding_of}
+use Rattle.values.specs.Values.{AreAllowed, Values}
+use Rattle.values_text.specs.Reading.{IsValuesReading}
+use Rattle.surveys.specs.declared.kind.LineKind.{LineKind}
+use Rattle.surveys.specs.declared.kind.LineKind.TheVariants as kinds
 
 -- the verdict on the recording that the bytes give
 pub record IsJudged (bytes : List ℕ) (verdict : Verdict) : Type 0 where
@@ -32,15 +36,40 @@ abbrev pub given_finding : Result Verdict RecError → Finding
 given_finding (Ok verdict) = finding_of verdict
 given_finding (Err refusal) = Refused refusal
 
--- what is found in the bytes of a line
-pub record IsLineFinding (bytes : List ℕ) (finding : Finding) : Type 0 where
+-- what is found in the bytes of a line that is a recording
+pub record IsRecordingFinding (bytes : List ℕ) (finding : Finding) : Type 0 where
   pub given : Result Verdict RecError
   pub is_given : IsLineResult bytes given
   pub finds : finding ≡ given_finding given
 
+-- what is found of values: that TSO allows them, or that it does not; nothing is said of what is unfinished
+abbrev pub IsValuesFound : Values → Finding → Type 0
+IsValuesFound v Ordered = AreAllowed v
+IsValuesFound v Impossible = ¬ AreAllowed v
+IsValuesFound v Unfinished = ⊤
+IsValuesFound v other = ⊥
+
+-- the bytes give values, of which this is found
+pub record AreCompleted (bytes : List ℕ) (finding : Finding) : Type 0 where
+  pub values : Values
+  pub read : IsValuesReading bytes (Ok values)
+  pub found : IsValuesFound values finding
+
+-- the bytes give none, and this refusal is found; it is not that memory ran out
+pub record AreNoValues (bytes : List ℕ) (finding : Finding) : Type 0 where
+  pub refusal : RecError
+  pub read : IsValuesReading bytes (Err refusal)
+  pub known : refusal ≢ OutOfMemory
+  pub finds : finding ≡ Refused refusal
+
+-- what is found in the bytes of a line of this kind
+abbrev pub IsLineFinding : LineKind → List ℕ → Finding → Type 0
+IsLineFinding kinds.Recording bytes finding = IsRecordingFinding bytes finding
+IsLineFinding (kinds.Values states) bytes finding = AreCompleted bytes finding ⊎ AreNoValues bytes finding
+
 -- what is found in lines, in order
-abbrev pub AreFindings : List (List ℕ) → List Finding → Type 0
-AreFindings lines findings = AllZip IsLineFinding lines findings
+abbrev pub AreFindings : LineKind → List (List ℕ) → List Finding → Type 0
+AreFindings kind lines findings = AllZip (IsLineFinding kind) lines findings
 
 -- its codes
 abbrev pub codes_of : List Finding → List ℕ

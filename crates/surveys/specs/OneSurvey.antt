@@ -1,21 +1,25 @@
--- Bytes have one survey.
+-- The recordings that bytes are have one survey.
 use Rattle.std.specs.Prelude.{◌≡◌, ℕ, List, Option, Some, Bool}
 use Rattle.ledger.specs.declared.finding.Finding.{Finding}
-use Rattle.ledger.specs.declared.ledger.Ledger.{Ledger}
+use Rattle.ledger.specs.declared.survey_ledger.SurveyLedger.{SurveyLedger}
 use Rattle.ledger.specs.Counts.{IsSameLedger}
+use Rattle.surveys.specs.declared.kind.LineKind.TheVariants.{Recording}
 use Rattle.surveys.specs.Found.{IsLineFinding}
 use Rattle.surveys.specs.Surveys.{IsSurvey}
 
--- one thing is found in a line
+-- one thing is found in a line that is a recording
 abbrev pub EveryLineHasOneFinding : Type 0
-EveryLineHasOneFinding = (bytes : List ℕ) (f g : Finding) → IsLineFinding bytes f → IsLineFinding bytes g → f ≡ g
+EveryLineHasOneFinding = (bytes : List ℕ) (f g : Finding) → IsLineFinding Recording bytes f
+    → IsLineFinding Recording bytes g → f ≡ g
 
 -- two surveys of the same bytes count the same
 abbrev pub EverySurveyCountsTheSame : Type 0
-EverySurveyCountsTheSame = (bytes : List ℕ) (l m : Ledger) (each other : Bool) (s t u v : Option (List ℕ))
-    → IsSurvey bytes l each s t → IsSurvey bytes m other u v → IsSameLedger l m
+EverySurveyCountsTheSame = (bytes : List ℕ) (l m : SurveyLedger) (each other : Bool) (s t u v : Option (List ℕ))
+    → IsSurvey Recording bytes l each s t → IsSurvey Recording bytes m other u v → IsSameLedger l.ledger m.ledger
 
 -- and tell the same
 abbrev pub EverySurveyTellsTheSame : Type 0
-EverySurveyTellsTheSame = (bytes : List ℕ) (l m : Ledger) (each : Bool) (start said told : List ℕ)
-    → IsSurvey bytes l each (Some start) (Some said) → IsSurvey bytes m each (Some start) (Some told) → said ≡ told
+EverySurveyTellsTheSame = (bytes : List ℕ) (l m : SurveyLedger) (each : Bool) (start said told : List ℕ)
+    → IsSurvey Recording bytes l each (Some start) (Some said)
+    → IsSurvey Recording bytes m each (Some start) (Some told)
+    → said ≡ told

@@ -1,36 +1,38 @@
 -- What is known while a source is surveyed block by block.
 use Rattle.std.specs.Prelude.{◌≡◌, ◌++◌, ℕ, List, Option, Bool, length}
 use Rattle.std.specs.Io.KnownBytes.{Consumes}
-use Rattle.ledger.specs.declared.ledger.Ledger.{Ledger}
+use Rattle.ledger.specs.declared.survey_ledger.SurveyLedger.{SurveyLedger}
+use Rattle.surveys.specs.declared.kind.LineKind.{LineKind}
 use Rattle.surveys.specs.Lines.{IsWhole}
 use Rattle.surveys.specs.Surveys.{IsSurvey}
 
-module _ (each : Bool) where
+module _ (kind : LineKind) (each : Bool) where
   -- the first bytes, n of them, after which a line begins, and what is found in their lines
-  pub record IsTally (front : List ℕ) (ledger : Ledger) (n : ℕ) (start now : Option (List ℕ)) : Type 0 where
+  pub record IsTally (front : List ℕ) (ledger : SurveyLedger) (n : ℕ) (start now : Option (List ℕ)) : Type 0 where
     pub whole : IsWhole front
-    pub survey : IsSurvey front ledger each start now
+    pub survey : IsSurvey kind front ledger each start now
     pub size : n ≡ length front
 
   -- a tally of whatever bytes is one with these bytes more
-  abbrev pub Grows : List ℕ → Ledger → ℕ → Option (List ℕ) → Ledger → ℕ → Option (List ℕ) → Type 0
+  abbrev pub Grows : List ℕ → SurveyLedger → ℕ → Option (List ℕ) → SurveyLedger → ℕ → Option (List ℕ) → Type 0
   Grows more old n was new m is = (front : List ℕ) (start : Option (List ℕ)) → IsTally front old n start was
       → IsTally (front ++ more) new m start is
 
   -- a survey of whatever tallied bytes is one with these bytes more
-  abbrev pub Ends : List ℕ → Ledger → ℕ → Option (List ℕ) → Ledger → Option (List ℕ) → Type 0
+  abbrev pub Ends : List ℕ → SurveyLedger → ℕ → Option (List ℕ) → SurveyLedger → Option (List ℕ) → Type 0
   Ends last old n was new is = (front : List ℕ) (start : Option (List ℕ)) → IsTally front old n start was
-      → IsSurvey (front ++ last) new each start is
+      → IsSurvey kind (front ++ last) new each start is
 
   -- some bytes of the block were tallied, and the others are left
-  pub record IsTallied (block rest : List ℕ) (old : Ledger) (n : ℕ) (was : Option (List ℕ)) (new : Ledger) (m : ℕ)
+  pub record IsTallied (block rest : List ℕ) (old : SurveyLedger) (n : ℕ) (was : Option (List ℕ))
+      (new : SurveyLedger) (m : ℕ)
       (is : Option (List ℕ)) : Type 0 where
     pub more : List ℕ
     pub cut : block ≡ more ++ rest
     pub grows : Grows more old n was new m is
 
   -- of what was read so far the first bytes were tallied, and the others are in the block
-  pub record IsUnderWay (left_before left_now : Option (List ℕ)) (ledger : Ledger) (n : ℕ) (block : List ℕ)
+  pub record IsUnderWay (left_before left_now : Option (List ℕ)) (ledger : SurveyLedger) (n : ℕ) (block : List ℕ)
       (start now : Option (List ℕ)) : Type 0 where
     pub front : List ℕ
     pub tally : IsTally front ledger n start now

@@ -1,19 +1,27 @@
 //! Batches of a block.
 
-ghost use Rattle.std.specs.Prelude.{◌≡◌, IfOk};
+ghost use Rattle.std.specs.Prelude.{◌≡◌, IfOk, IsTrue};
 ghost use Rattle.surveys.specs.Coded.{AreLineCodes};
 
-use crate::coded::{codes_of_lines, judge_lines};
-use common::{Gate, OutOfMemory};
+use crate::coded::judge_lines;
+use crate::kind::LineKind;
+use common::{Gate, OpenGate, OutOfMemory};
 use std::alloc::Global;
 use std::marker::Model;
+
+/// The codes of what is found in lines of this kind.
+#[derive(Drop)]
+struct Judged {
+    kind: LineKind,
+    codes: Vec<u64>,
+}
 
 /// Lines, and the codes of what is found in them where they are judged. Contracts see the bytes.
 #[derive(Drop)]
 pub(crate) struct Batch {
     bytes: Vec<u8>,
     first: usize,
-    codes: Option<Vec<u64>>,
+    judged: Option<Judged>,
 }
 
 impl Model for Batch {
@@ -24,7 +32,7 @@ impl Model for Batch {
 
     ghost view = { λ p. p.bytes.items };
 
-    ghost invariant = { λ p. IfSome p.codes (λ codes. AreLineCodes p.bytes.items codes.items) };
+    ghost invariant = { λ p. IfSome p.judged (λ j. AreLineCodes j.kind p.bytes.items j.codes.items) };
 }
 
 impl Batch {
@@ -35,7 +43,7 @@ impl Batch {
         Batch {
             bytes,
             first,
-            codes: None,
+            judged: None,
         }
     }
 
@@ -47,27 +55,38 @@ impl Batch {
     }
 
     /// Judges the lines, of which the gate hears, unless memory runs out.
-    pub(crate) fn judge<G: Gate>(&mut self, alloc: Global, gate: &G, worker: usize)
+    pub(crate) fn judge<G: Gate>(&mut self, alloc: Global, kind: LineKind, gate: &G, worker: usize)
         ensures { self.new ≡ self.old }
     {
-        let Ok(codes) = judge_lines(alloc, &self.bytes, self.first, gate, worker) else {
+        let Ok(codes) = judge_lines(alloc, kind, &self.bytes, self.first, gate, worker) else {
             return;
         };
-        self.codes = Some(codes);
+        self.judged = Some(Judged { kind, codes });
     }
 
     /// The codes of what is found in the lines, which are judged here where they are not. Fails only if out of memory.
-    pub(crate) fn into_codes(self, alloc: Global) -> Result<Vec<u64>, OutOfMemory>
-        ensures { IfOk result (λ codes. AreLineCodes self codes.items) }
+    pub(crate) fn into_codes(self, alloc: Global, kind: LineKind) -> Result<Vec<u64>, OutOfMemory>
+        ensures { IfOk result (λ codes. AreLineCodes kind self codes.items) }
     {
         let Batch {
             bytes,
             first: _,
-            codes,
+            judged,
         } = self;
-        match codes {
-            Some(codes) => Ok(codes),
-            None => codes_of_lines(alloc, &bytes),
+        match judged {
+            Some(Judged { kind: of, codes }) if is_same(of, kind) => Ok(codes),
+            _ => judge_lines(alloc, kind, &bytes, 0, &OpenGate, 0),
         }
+    }
+}
+
+/// Whether two kinds are the same.
+fn is_same(one: LineKind, other: LineKind) -> bool
+    ensures { IsTrue result → one ≡ other }
+{
+    match (one, other) {
+        (LineKind::Recording, LineKind::Recording) => true,
+        (LineKind::Values(most), LineKind::Values(states)) => most == states,
+        _ => false,
     }
 }

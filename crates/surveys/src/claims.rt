@@ -5,6 +5,7 @@ ghost use denote.Param.Send.{IsSync};
 ghost use Rattle.surveys.specs.Claims.{AreClaims, IsFoundAt};
 
 use crate::judged::judge_line;
+use crate::kind::LineKind;
 use common::{Gate, MAX_WORKERS, OutOfMemory};
 use ledger::Finding;
 use std::alloc::Global;
@@ -31,6 +32,7 @@ fn next_place(next: &AtomicUsize, places: usize) -> Option<usize>
 /// Judges a line, of which the gate hears under this number.
 fn judge_one<G: Gate>(
     alloc: Global,
+    kind: LineKind,
     lines: &[&[u8]],
     place: usize,
     gate: &G,
@@ -38,22 +40,23 @@ fn judge_one<G: Gate>(
     piece: usize,
 ) -> Result<Claim, OutOfMemory>
     requires { place < length lines.now }
-    ensures { IfOk result (λ claim. IsFoundAt lines.now claim.place claim.finding) }
+    ensures { IfOk result (λ claim. IsFoundAt kind lines.now claim.place claim.finding) }
 {
-    let finding = judge_line(alloc, lines[place], gate, worker, piece)?;
+    let finding = judge_line(alloc, kind, lines[place], gate, worker, piece)?;
     Ok(Claim { place, finding })
 }
 
 /// Claims lines and judges them until none is left, or memory runs out. The first line has this number.
 fn judge_claims<G: Gate>(
     alloc: Global,
+    kind: LineKind,
     lines: &[&[u8]],
     next: &AtomicUsize,
     first: usize,
     gate: &G,
     worker: usize,
 ) -> Vec<Claim>
-    ensures { AreClaims lines.now result.items }
+    ensures { AreClaims kind lines.now result.items }
 {
     let mut claims = Vec::new(alloc);
     for _ in 0..lines.len() {
@@ -61,7 +64,7 @@ fn judge_claims<G: Gate>(
             break;
         };
         let piece = first.wrapping_add(place);
-        let Ok(claim) = judge_one(alloc, lines, place, gate, worker, piece) else {
+        let Ok(claim) = judge_one(alloc, kind, lines, place, gate, worker, piece) else {
             break;
         };
         let Ok(()) = claims.push(claim) else {
@@ -77,6 +80,7 @@ fn judge_claims<G: Gate>(
 fn claims_from<R: Threads + Sync, G: Gate>(
     rt: &R,
     alloc: Global,
+    kind: LineKind,
     lines: &[&[u8]],
     next: &AtomicUsize,
     first: usize,
@@ -86,23 +90,24 @@ fn claims_from<R: Threads + Sync, G: Gate>(
 ) -> Result<Vec<Vec<Claim>>, OutOfMemory>
     requires { worker < workers }
     ensures { IfOk result
-        (λ claims_of_workers. All (λ claims_of_one. AreClaims lines.now claims_of_one.items) claims_of_workers.items) }
+        (λ claims_of_workers. All (λ claims_of_one. AreClaims kind lines.now claims_of_one.items)
+        claims_of_workers.items) }
 {
     let after = worker + 1;
     if after == workers {
         let mut claims_of_workers = Vec::with_capacity(alloc, workers)?;
-        claims_of_workers.push(judge_claims(alloc, lines, next, first, gate, worker))?;
+        claims_of_workers.push(judge_claims(alloc, kind, lines, next, first, gate, worker))?;
         return Ok(claims_of_workers);
     }
     let one = || -> Vec<Claim>
         requires { IsSync G.row }
-        ensures { AreClaims lines.entry.now result.items }
-    { judge_claims(alloc, lines, next, first, gate, worker) };
+        ensures { AreClaims kind lines.entry.now result.items }
+    { judge_claims(alloc, kind, lines, next, first, gate, worker) };
     let others = || -> Result<Vec<Vec<Claim>>, OutOfMemory>
         requires { IsSync R.row × IsSync G.row × (after < workers) }
         ensures { IfOk result (λ claims_of_workers.
-            All (λ claims_of_one. AreClaims lines.entry.now claims_of_one.items) claims_of_workers.items) }
-    { claims_from(rt, alloc, lines, next, first, gate, after, workers) };
+            All (λ claims_of_one. AreClaims kind lines.entry.now claims_of_one.items) claims_of_workers.items) }
+    { claims_from(rt, alloc, kind, lines, next, first, gate, after, workers) };
     let (claims, rest) = join(rt, one, others);
     let mut claims_of_workers = rest?;
     claims_of_workers.push(claims)?;
@@ -114,13 +119,15 @@ fn claims_from<R: Threads + Sync, G: Gate>(
 pub(crate) fn claims_by<R: Threads + Sync, G: Gate>(
     rt: &R,
     alloc: Global,
+    kind: LineKind,
     lines: &[&[u8]],
     first: usize,
     workers: usize,
     gate: &G,
 ) -> Result<Vec<Vec<Claim>>, OutOfMemory>
     ensures { IfOk result
-        (λ claims_of_workers. All (λ claims_of_one. AreClaims lines.now claims_of_one.items) claims_of_workers.items) }
+        (λ claims_of_workers. All (λ claims_of_one. AreClaims kind lines.now claims_of_one.items)
+        claims_of_workers.items) }
 {
     if workers == 0 {
         return Ok(Vec::new(alloc));
@@ -129,6 +136,7 @@ pub(crate) fn claims_by<R: Threads + Sync, G: Gate>(
     claims_from(
         rt,
         alloc,
+        kind,
         lines,
         &next,
         first,

@@ -4,7 +4,7 @@ ghost use Rattle.std.specs.Prelude.{◌≡◌, ◌≢◌, ◌<◌, ◌+◌, ◌^
 ghost use Rattle.std.specs.Prelude.{length, map};
 ghost use Rattle.std.specs.Io.KnownBytes.{Appends};
 ghost use Rattle.devices.specs.Bytes.{CanGrow, CountsBy};
-ghost use Rattle.ledger.specs.Counts.{IsLedger};
+ghost use Rattle.ledger.specs.Surveyed.{IsSurveyLedger};
 ghost use Rattle.surveys.specs.Claims.{AreClaims, ArePlaces, IsFoundAt};
 ghost use Rattle.surveys.specs.Found.{AreFindings, codes_of};
 ghost use Rattle.surveys.specs.Surveys.{ExtendsSurvey, IsLong, IsSurveyUpTo, told_text};
@@ -14,10 +14,11 @@ use crate::claims::{Claim, claims_by};
 use crate::each::each_text;
 use crate::error::SurveyError;
 use crate::judged::finding_of_line;
+use crate::kind::LineKind;
 use crate::lines::next_lines;
 use common::{Gate, OutOfMemory};
 use devices::{Failed, Sink, write_all};
-use ledger::{Finding, Ledger};
+use ledger::{Finding, SurveyLedger};
 use std::alloc::Global;
 use std::thread::Threads;
 
@@ -30,10 +31,10 @@ const TOLD_LINES: usize = 64;
 /// Puts what a worker found to its places.
 fn store_claims(places: &mut [Option<Finding>], lines: &[&[u8]], claims: &[Claim])
     requires size { length places.old ≡ length lines.now }
-    requires places { ArePlaces lines.now places.old }
-    requires claims { AreClaims lines.now claims.now }
+    requires places { ArePlaces kind lines.now places.old }
+    requires claims { AreClaims kind lines.now claims.now }
     ensures size { length places.new ≡ length lines.now }
-    ensures places { ArePlaces lines.now places.new }
+    ensures places { ArePlaces kind lines.now places.new }
 {
     for claim in claims {
         places[claim.place] = Some(claim.finding);
@@ -43,10 +44,10 @@ fn store_claims(places: &mut [Option<Finding>], lines: &[&[u8]], claims: &[Claim
 /// Puts what all workers found to its places.
 fn store_findings(places: &mut [Option<Finding>], lines: &[&[u8]], claims_of_workers: &[Vec<Claim>])
     requires size { length places.old ≡ length lines.now }
-    requires places { ArePlaces lines.now places.old }
-    requires claims { All (λ claims_of_one. AreClaims lines.now claims_of_one.items) claims_of_workers.now }
+    requires places { ArePlaces kind lines.now places.old }
+    requires claims { All (λ claims_of_one. AreClaims kind lines.now claims_of_one.items) claims_of_workers.now }
     ensures size { length places.new ≡ length lines.now }
-    ensures places { ArePlaces lines.now places.new }
+    ensures places { ArePlaces kind lines.now places.new }
 {
     for claims_of_one in claims_of_workers {
         store_claims(places, lines, claims_of_one);
@@ -56,34 +57,36 @@ fn store_findings(places: &mut [Option<Finding>], lines: &[&[u8]], claims_of_wor
 /// What is found at a place, which is judged here where it is empty.
 fn finding_at(
     alloc: Global,
+    kind: LineKind,
     lines: &[&[u8]],
     places: &[Option<Finding>],
     i: usize,
 ) -> Result<Finding, OutOfMemory>
     requires at { i < length lines.now }
     requires size { length places.now ≡ length lines.now }
-    requires places { ArePlaces lines.now places.now }
-    ensures { IfOk result (IsFoundAt lines.now i) }
+    requires places { ArePlaces kind lines.now places.now }
+    ensures { IfOk result (IsFoundAt kind lines.now i) }
 {
     match places[i] {
         Some(finding) => Ok(finding),
-        None => finding_of_line(alloc, lines[i]),
+        None => finding_of_line(alloc, kind, lines[i]),
     }
 }
 
 /// What is found at all places.
 fn all_findings(
     alloc: Global,
+    kind: LineKind,
     lines: &[&[u8]],
     places: &[Option<Finding>],
 ) -> Result<Vec<Finding>, OutOfMemory>
     requires size { length places.now ≡ length lines.now }
-    requires places { ArePlaces lines.now places.now }
-    ensures { IfOk result (λ findings. AreFindings (map (λ l. l.now) lines.now) findings.items) }
+    requires places { ArePlaces kind lines.now places.now }
+    ensures { IfOk result (λ findings. AreFindings kind (map (λ l. l.now) lines.now) findings.items) }
 {
     let mut findings = Vec::new(alloc);
     for i in 0..lines.len() {
-        findings.push(finding_at(alloc, lines, places, i)?)?;
+        findings.push(finding_at(alloc, kind, lines, places, i)?)?;
     }
     Ok(findings)
 }
@@ -94,28 +97,29 @@ fn all_findings(
 fn findings_of<R: Threads + Sync, G: Gate>(
     rt: &R,
     alloc: Global,
+    kind: LineKind,
     lines: &[&[u8]],
     first: usize,
     workers: usize,
     gate: &G,
 ) -> Result<Vec<Finding>, OutOfMemory>
-    ensures { IfOk result (λ findings. AreFindings (map (λ l. l.now) lines.now) findings.items) }
+    ensures { IfOk result (λ findings. AreFindings kind (map (λ l. l.now) lines.now) findings.items) }
 {
-    let claims_of_workers = claims_by(rt, alloc, lines, first, workers, gate)?;
+    let claims_of_workers = claims_by(rt, alloc, kind, lines, first, workers, gate)?;
     let mut places = Vec::from_elem(alloc, None, lines.len())?;
     store_findings(&mut places, lines, &claims_of_workers);
-    all_findings(alloc, lines, &places)
+    all_findings(alloc, kind, lines, &places)
 }
 
 /// The ledger of what is found, in order. Fails only if out of memory.
-fn ledger_of(alloc: Global, findings: &[Finding]) -> Result<Ledger, OutOfMemory>
-    ensures { IfOk result (IsLedger (codes_of findings.now)) }
+fn ledger_of(alloc: Global, findings: &[Finding]) -> Result<SurveyLedger, OutOfMemory>
+    ensures { IfOk result (IsSurveyLedger (codes_of findings.now)) }
 {
     let mut codes = Vec::with_capacity(alloc, findings.len())?;
     for finding in findings {
         codes.push(finding.code())?;
     }
-    Ledger::count(alloc, &codes)
+    SurveyLedger::count(alloc, &codes)
 }
 
 /// Writes the lines of what is found, the first of which has this number, where each is reported, and flushes them.
@@ -158,9 +162,10 @@ fn lines_at_once(each: bool) -> usize {
 fn count_some<'a, R: Threads + Sync, W: Sink, G: Gate>(
     rt: &R,
     alloc: Global,
+    kind: LineKind,
     sink: &mut W,
     each: bool,
-    ledger: &mut Ledger,
+    ledger: &mut SurveyLedger,
     bytes: &'a [u8],
     workers: usize,
     gate: &G,
@@ -168,9 +173,9 @@ fn count_some<'a, R: Threads + Sync, W: Sink, G: Gate>(
     requires some { 0 < length bytes.now }
     requires writes { CanGrow (W.write_failures sink.old) }
     requires part { (all : List ℕ) × (start : Option (List ℕ)) × (length all < 2 ^ 64)
-        × IsSurveyUpTo all bytes.now ledger.old each start (W.written sink.old) }
+        × IsSurveyUpTo kind all bytes.now ledger.old each start (W.written sink.old) }
     ensures shorter { IfOk result (λ rest. length rest.now < length bytes.now) }
-    ensures ok { IfOk result (λ rest. ExtendsSurvey bytes.now rest.now each
+    ensures ok { IfOk result (λ rest. ExtendsSurvey kind bytes.now rest.now each
         ledger.old (W.written sink.old) ledger.new (W.written sink.new)) }
     ensures short { IfErr result (λ e. IsLong e 0) }
     ensures reads { IfErr result (λ e. survey_failed_reads e ≡ 0) }
@@ -178,8 +183,8 @@ fn count_some<'a, R: Threads + Sync, W: Sink, G: Gate>(
     ensures silent { each ≢ true → sink.new ≡ sink.old }
 {
     let (lines, rest) = next_lines(alloc, bytes, lines_at_once(each))?;
-    let first = ledger.total;
-    let findings = findings_of(rt, alloc, &lines, first, workers, gate)?;
+    let first = ledger.ledger.total;
+    let findings = findings_of(rt, alloc, kind, &lines, first, workers, gate)?;
     let more = ledger_of(alloc, &findings)?;
     write_findings(alloc, sink, each, first, &findings)?;
     ledger.add(&more);
@@ -190,17 +195,18 @@ fn count_some<'a, R: Threads + Sync, W: Sink, G: Gate>(
 pub(crate) fn count_all<R: Threads + Sync, W: Sink, G: Gate>(
     rt: &R,
     alloc: Global,
+    kind: LineKind,
     sink: &mut W,
     each: bool,
-    ledger: &mut Ledger,
+    ledger: &mut SurveyLedger,
     bytes: &[u8],
     workers: usize,
     gate: &G,
 ) -> Result<(), SurveyError>
     requires writes { CanGrow (W.write_failures sink.old) }
     requires part { (all : List ℕ) × (start : Option (List ℕ)) × (length all < 2 ^ 64)
-        × IsSurveyUpTo all bytes.now ledger.old each start (W.written sink.old) }
-    ensures ok { OnOk result (ExtendsSurvey bytes.now [] each
+        × IsSurveyUpTo kind all bytes.now ledger.old each start (W.written sink.old) }
+    ensures ok { OnOk result (ExtendsSurvey kind bytes.now [] each
         ledger.old (W.written sink.old) ledger.new (W.written sink.new)) }
     ensures short { IfErr result (λ e. IsLong e 0) }
     ensures reads { IfErr result (λ e. survey_failed_reads e ≡ 0) }
@@ -209,7 +215,7 @@ pub(crate) fn count_all<R: Threads + Sync, W: Sink, G: Gate>(
 {
     let mut rest = bytes;
     'parts: while !rest.is_empty() {
-        rest = count_some(rt, alloc, sink, each, ledger, rest, workers, gate)?;
+        rest = count_some(rt, alloc, kind, sink, each, ledger, rest, workers, gate)?;
     }
     Ok(())
 }

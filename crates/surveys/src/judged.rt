@@ -1,19 +1,23 @@
 //! What is found in a line.
 
-ghost use Rattle.std.specs.Prelude.{◌≡◌, ◌≢◌, IfOk};
+ghost use Rattle.std.specs.Prelude.{◌≡◌, ◌≢◌, ◌⊎◌, IfOk};
 ghost use Rattle.verdicts.specs.declared.verdict.Verdict.{Verdict};
 ghost use Rattle.verdicts.specs.Judgement.{IsVerdict};
 ghost use Rattle.ledger.specs.Findings.{finding_of};
 ghost use Rattle.ledger.specs.declared.finding.Finding.TheVariants.{Refused};
 ghost use Rattle.recording.specs.declared.fault.RecError.TheVariants as refusals;
-ghost use Rattle.surveys.specs.Found.{IsLineFinding};
+ghost use Rattle.surveys.specs.Found.{AreCompleted, AreNoValues, IsLineFinding, IsRecordingFinding, IsValuesFound};
 
+use crate::kind::LineKind;
 use common::{Gate, OutOfMemory};
+use completion::{Answer, complete};
 use judge::judge_alone;
 use ledger::Finding;
 use recorder::read_recording;
 use recording::{RecError, Recording};
 use std::alloc::Global;
+use values::Values;
+use values_text::read_values;
 
 /// What a refusal finds; none where memory ran out.
 fn refused(refusal: RecError) -> Result<Finding, OutOfMemory>
@@ -39,8 +43,8 @@ fn found_in(alloc: Global, recording: &Recording) -> Result<Finding, OutOfMemory
 
 /// What is found in the recording that the bytes of a line give, or its refusal. It does not block. Fails
 /// only if out of memory.
-pub(crate) fn finding_of_line(alloc: Global, bytes: &[u8]) -> Result<Finding, OutOfMemory>
-    ensures { IfOk result (IsLineFinding bytes.now) }
+fn finding_of_recording(alloc: Global, bytes: &[u8]) -> Result<Finding, OutOfMemory>
+    ensures { IfOk result (IsRecordingFinding bytes.now) }
 {
     match read_recording(alloc, bytes) {
         Ok(recording) => found_in(alloc, &recording),
@@ -48,10 +52,49 @@ pub(crate) fn finding_of_line(alloc: Global, bytes: &[u8]) -> Result<Finding, Ou
     }
 }
 
+/// What values come to, where no more than this many states are looked at.
+fn found_of(alloc: Global, values: &Values, states: usize) -> Result<Finding, OutOfMemory>
+    ensures { IfOk result (IsValuesFound values.now) }
+{
+    let limit = states.min(u32::MAX as usize) as u32;
+    match complete(alloc, values, limit)? {
+        Answer::Completed(..) => Ok(Finding::Ordered),
+        Answer::Impossible => Ok(Finding::Impossible),
+        Answer::Unfinished => Ok(Finding::Unfinished),
+    }
+}
+
+/// What the values that the bytes of a line give come to, or their refusal. It does not block. Fails only if out of
+/// memory.
+fn finding_of_values(alloc: Global, bytes: &[u8], states: usize) -> Result<Finding, OutOfMemory>
+    ensures { IfOk result (λ f. AreCompleted bytes.now f ⊎ AreNoValues bytes.now f) }
+{
+    match read_values(alloc, bytes) {
+        Ok(values) => found_of(alloc, &values, states),
+        Err(refusal) => refused(refusal),
+    }
+}
+
+/// What is found in the bytes of a line of this kind. Fails only if out of memory.
+pub(crate) fn finding_of_line(
+    alloc: Global,
+    kind: LineKind,
+    bytes: &[u8],
+) -> Result<Finding, OutOfMemory>
+    ensures { IfOk result (IsLineFinding kind bytes.now) }
+{
+    match kind {
+        LineKind::Recording => finding_of_recording(alloc, bytes),
+        LineKind::Values(states) => finding_of_values(alloc, bytes, states),
+    }
+}
+
 /// Tells the gate of a violation.
 fn report_violation<G: Gate>(gate: &G, worker: usize, number: usize, finding: Finding) {
     match finding {
-        Finding::Overlook { .. } | Finding::Cycle(_) => gate.found(worker, number),
+        Finding::Overlook { .. } | Finding::Cycle(_) | Finding::Impossible => {
+            gate.found(worker, number)
+        }
         _ => {}
     }
 }
@@ -59,15 +102,16 @@ fn report_violation<G: Gate>(gate: &G, worker: usize, number: usize, finding: Fi
 /// What is found in the bytes of a line, of which the gate hears under this number. Fails only if out of memory.
 pub(crate) fn judge_line<G: Gate>(
     alloc: Global,
+    kind: LineKind,
     bytes: &[u8],
     gate: &G,
     worker: usize,
     number: usize,
 ) -> Result<Finding, OutOfMemory>
-    ensures { IfOk result (IsLineFinding bytes.now) }
+    ensures { IfOk result (IsLineFinding kind bytes.now) }
 {
     gate.begin(worker, number);
-    let finding = finding_of_line(alloc, bytes)?;
+    let finding = finding_of_line(alloc, kind, bytes)?;
     report_violation(gate, worker, number, finding);
     gate.done(worker, number);
     Ok(finding)

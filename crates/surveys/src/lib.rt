@@ -1,4 +1,4 @@
-//! Surveys of many recordings, one a line.
+//! Surveys of many recordings, or of the values of many runs, one a line.
 #![tactic(auto)]
 
 mod batch;
@@ -9,6 +9,7 @@ mod each;
 mod error;
 mod filling;
 mod judged;
+mod kind;
 mod law;
 mod lines;
 mod offered;
@@ -20,6 +21,7 @@ mod workers;
 pub use coded::codes_of_lines;
 pub use each::each_text;
 pub use error::SurveyError;
-pub use ledger::{Finding, Ledger};
+pub use kind::LineKind;
+pub use ledger::{Finding, SurveyLedger};
 pub use showing::line_of;
 pub use surveying::survey;

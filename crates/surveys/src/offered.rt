@@ -7,9 +7,10 @@ ghost use Rattle.surveys.specs.Tallies.{IsTallied, IsTally};
 use crate::batch::Batch;
 use crate::error::SurveyError;
 use crate::filling::{keep_rest, last_end};
+use crate::kind::LineKind;
 use crate::queue::WorkQueue;
 use common::Gate;
-use ledger::Ledger;
+use ledger::SurveyLedger;
 use std::alloc::Global;
 use std::sync::Wait;
 
@@ -17,15 +18,16 @@ use std::sync::Wait;
 /// the bytes do not begin with it, whole.
 fn count_batch(
     alloc: Global,
-    ledger: &mut Ledger,
+    kind: LineKind,
+    ledger: &mut SurveyLedger,
     counted: usize,
     bytes: &[u8],
     batch: Batch,
 ) -> Result<(usize, usize), SurveyError>
     requires { (front : List ℕ) × (start : Option (List ℕ)) × (now : Option (List ℕ))
-        × IsTally false front ledger.old counted start now }
+        × IsTally kind false front ledger.old counted start now }
     ensures within { IfOk result (λ r. r.1 ≤ length bytes.now) }
-    ensures ok { IfOk result (λ r. (w : Option (List ℕ)) → IsTallied false bytes.now (drop r.1 bytes.now)
+    ensures ok { IfOk result (λ r. (w : Option (List ℕ)) → IsTallied kind false bytes.now (drop r.1 bytes.now)
         ledger.old counted w ledger.new r.0 w) }
     ensures size { IfOk result (λ r. r.0 ≡ counted + r.1) }
     ensures long { IfErr result (λ e. IsLong e (counted + length bytes.now)) }
@@ -36,8 +38,8 @@ fn count_batch(
     if !bytes.starts_with(batch.bytes()) || last_end(batch.bytes(), 0) != length {
         return Ok((counted, 0));
     }
-    let codes = batch.into_codes(alloc)?;
-    let more = Ledger::count(alloc, &codes)?;
+    let codes = batch.into_codes(alloc, kind)?;
+    let more = SurveyLedger::count(alloc, &codes)?;
     let Some(total) = counted.checked_add(length) else {
         return Err(SurveyError::TooLong);
     };
@@ -50,17 +52,18 @@ fn count_batch(
 fn count_batches<R: Wait, G: Gate>(
     rt: &R,
     alloc: Global,
+    kind: LineKind,
     queue: &WorkQueue,
-    ledger: &mut Ledger,
+    ledger: &mut SurveyLedger,
     counted: usize,
     bytes: &[u8],
     kept: usize,
     gate: &G,
 ) -> Result<(usize, usize), SurveyError>
     requires { (front : List ℕ) × (start : Option (List ℕ)) × (now : Option (List ℕ))
-        × IsTally false front ledger.old counted start now }
+        × IsTally kind false front ledger.old counted start now }
     ensures within { IfOk result (λ r. r.1 ≤ length bytes.now) }
-    ensures ok { IfOk result (λ r. (w : Option (List ℕ)) → IsTallied false bytes.now (drop r.1 bytes.now)
+    ensures ok { IfOk result (λ r. (w : Option (List ℕ)) → IsTallied kind false bytes.now (drop r.1 bytes.now)
         ledger.old counted w ledger.new r.0 w) }
     ensures size { IfOk result (λ r. r.0 ≡ counted + r.1) }
     ensures long { IfErr result (λ e. IsLong e (counted + length bytes.now)) }
@@ -70,10 +73,10 @@ fn count_batches<R: Wait, G: Gate>(
     let mut total = counted;
     let mut from = 0;
     'batches: while from < bytes.len() {
-        let Some(batch) = queue.collect(rt, alloc, kept, gate) else {
+        let Some(batch) = queue.collect(rt, alloc, kind, kept, gate) else {
             break;
         };
-        let (more, length) = count_batch(alloc, ledger, total, &bytes[from..], batch)?;
+        let (more, length) = count_batch(alloc, kind, ledger, total, &bytes[from..], batch)?;
         total = more;
         from += length;
         if length == 0 {
@@ -89,8 +92,9 @@ fn count_batches<R: Wait, G: Gate>(
 pub(crate) fn count_offered<R: Wait, G: Gate>(
     rt: &R,
     alloc: Global,
+    kind: LineKind,
     queue: &WorkQueue,
-    ledger: &mut Ledger,
+    ledger: &mut SurveyLedger,
     counted: usize,
     block: &mut Vec<u8>,
     seen: usize,
@@ -98,8 +102,8 @@ pub(crate) fn count_offered<R: Wait, G: Gate>(
     gate: &G,
 ) -> Result<usize, SurveyError>
     requires { (front : List ℕ) × (start : Option (List ℕ)) × (now : Option (List ℕ))
-        × IsTally false front ledger.old counted start now }
-    ensures ok { IfOk result (λ n. (w : Option (List ℕ)) → IsTallied false block.old.items block.new.items
+        × IsTally kind false front ledger.old counted start now }
+    ensures ok { IfOk result (λ n. (w : Option (List ℕ)) → IsTallied kind false block.old.items block.new.items
         ledger.old counted w ledger.new n w) }
     ensures long { IfErr result (λ e. IsLong e (counted + length block.old.items)) }
     ensures reads { IfErr result (λ e. survey_failed_reads e ≡ 0) }
@@ -109,7 +113,7 @@ pub(crate) fn count_offered<R: Wait, G: Gate>(
     let is_offered = queue.offer(rt, alloc, &block[..end]);
     // Batches that are counted leave room for those that had none.
     let kept = if is_offered { kept } else { 0 };
-    let (total, end) = count_batches(rt, alloc, queue, ledger, counted, block, kept, gate)?;
+    let (total, end) = count_batches(rt, alloc, kind, queue, ledger, counted, block, kept, gate)?;
     keep_rest(block, end);
     Ok(total)
 }

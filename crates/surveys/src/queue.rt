@@ -3,6 +3,7 @@
 ghost use Rattle.std.specs.Prelude.{◌≤◌, ◌<◌, length};
 
 use crate::batch::Batch;
+use crate::kind::LineKind;
 use crate::lines::split_line;
 use common::{Gate, OutOfMemory};
 use std::alloc::Global;
@@ -262,12 +263,13 @@ impl WorkQueue {
         &self,
         rt: &R,
         alloc: Global,
+        kind: LineKind,
         at: usize,
         mut batch: Batch,
         gate: &G,
         worker: usize,
     ) {
-        batch.judge(alloc, gate, worker);
+        batch.judge(alloc, kind, gate, worker);
         self.slots.lock(rt).put_back(at, batch);
         self.was_judged.notify_one();
     }
@@ -282,12 +284,19 @@ impl WorkQueue {
     }
 
     /// Judges batches until the queue is closed, or 2^64 - 1 of them.
-    pub(crate) fn work<R: Wait, G: Gate>(&self, rt: &R, alloc: Global, gate: &G, worker: usize) {
+    pub(crate) fn work<R: Wait, G: Gate>(
+        &self,
+        rt: &R,
+        alloc: Global,
+        kind: LineKind,
+        gate: &G,
+        worker: usize,
+    ) {
         for _ in 0..u64::MAX {
             let Some((at, batch)) = self.take(rt) else {
                 break;
             };
-            self.judge(rt, alloc, at, batch, gate, worker);
+            self.judge(rt, alloc, kind, at, batch, gate, worker);
         }
     }
 
@@ -305,6 +314,7 @@ impl WorkQueue {
         &self,
         rt: &R,
         alloc: Global,
+        kind: LineKind,
         kept: usize,
         gate: &G,
     ) -> Option<Batch> {
@@ -312,7 +322,7 @@ impl WorkQueue {
             match self.turn(rt, kept) {
                 Turn::Over => return None,
                 Turn::Collected(batch) => return Some(batch),
-                Turn::Judge(at, batch) => self.judge(rt, alloc, at, batch, gate, 0),
+                Turn::Judge(at, batch) => self.judge(rt, alloc, kind, at, batch, gate, 0),
             }
         }
         None

@@ -4,7 +4,7 @@ ghost use Rattle.std.specs.Prelude.{◌≡◌, ◌≢◌, ◌<◌, ◌+◌, ℕ,
 ghost use Rattle.std.specs.Prelude.{length};
 ghost use Rattle.std.specs.Io.KnownBytes.{IsAtEnd};
 ghost use Rattle.devices.specs.Bytes.{CanGrow, CountsBy};
-ghost use Rattle.ledger.specs.Counts.{IsLedger};
+ghost use Rattle.ledger.specs.Surveyed.{IsSurveyLedger};
 ghost use Rattle.surveys.specs.Lines.{IsWhole};
 ghost use Rattle.surveys.specs.OneSurvey.{EveryLineHasOneFinding, EverySurveyCountsTheSame};
 ghost use Rattle.surveys.specs.OneSurvey.{EverySurveyTellsTheSame};
@@ -15,13 +15,14 @@ ghost use Rattle.surveys.specs.Tallies.{Ends, Grows, IsTallied, IsTally};
 use crate::counting::count_all;
 use crate::error::SurveyError;
 use crate::filling::{BLOCK, CHUNK, fill, keep_rest, last_end};
+use crate::kind::LineKind;
 use crate::law::a_survey_is_one;
 use crate::offered::count_offered;
 use crate::queue::WorkQueue;
 use crate::workers::with_workers;
 use common::Gate;
 use devices::{Sink, Source};
-use ledger::Ledger;
+use ledger::SurveyLedger;
 use std::alloc::Global;
 use std::sync::Wait;
 use std::thread::Threads;
@@ -33,9 +34,10 @@ const KEPT: usize = BLOCK / 2;
 fn count_part<R: Threads + Sync, W: Sink, G: Gate>(
     rt: &R,
     alloc: Global,
+    kind: LineKind,
     sink: &mut W,
     each: bool,
-    ledger: &mut Ledger,
+    ledger: &mut SurveyLedger,
     counted: usize,
     part: &[u8],
     workers: usize,
@@ -43,11 +45,11 @@ fn count_part<R: Threads + Sync, W: Sink, G: Gate>(
 ) -> Result<usize, SurveyError>
     requires writes { CanGrow (W.write_failures sink.old) }
     requires tally { (front : List ℕ) × (start : Option (List ℕ))
-        × IsTally each front ledger.old counted start (W.written sink.old) }
+        × IsTally kind each front ledger.old counted start (W.written sink.old) }
     ensures grows { IfOk result (λ n. IsWhole part.now
-        → Grows each part.now ledger.old counted (W.written sink.old) ledger.new n (W.written sink.new)) }
+        → Grows kind each part.now ledger.old counted (W.written sink.old) ledger.new n (W.written sink.new)) }
     ensures ends { OnOk result
-        (Ends each part.now ledger.old counted (W.written sink.old) ledger.new (W.written sink.new)) }
+        (Ends kind each part.now ledger.old counted (W.written sink.old) ledger.new (W.written sink.new)) }
     ensures long { IfErr result (λ e. IsLong e (counted + length part.now)) }
     ensures reads { IfErr result (λ e. survey_failed_reads e ≡ 0) }
     ensures writes { CountsBy survey_failed_writes (W.write_failures sink.old) (W.write_failures sink.new) result }
@@ -56,7 +58,7 @@ fn count_part<R: Threads + Sync, W: Sink, G: Gate>(
     let Some(total) = counted.checked_add(part.len()) else {
         return Err(SurveyError::TooLong);
     };
-    count_all(rt, alloc, sink, each, ledger, part, workers, gate)?;
+    count_all(rt, alloc, kind, sink, each, ledger, part, workers, gate)?;
     Ok(total)
 }
 
@@ -65,9 +67,10 @@ fn count_part<R: Threads + Sync, W: Sink, G: Gate>(
 fn count_whole<R: Threads + Wait + Sync, W: Sink, G: Gate>(
     rt: &R,
     alloc: Global,
+    kind: LineKind,
     sink: &mut W,
     each: bool,
-    ledger: &mut Ledger,
+    ledger: &mut SurveyLedger,
     counted: usize,
     block: &mut Vec<u8>,
     seen: usize,
@@ -78,8 +81,8 @@ fn count_whole<R: Threads + Wait + Sync, W: Sink, G: Gate>(
 ) -> Result<usize, SurveyError>
     requires writes { CanGrow (W.write_failures sink.old) }
     requires tally { (front : List ℕ) × (start : Option (List ℕ))
-        × IsTally each front ledger.old counted start (W.written sink.old) }
-    ensures ok { IfOk result (λ n. IsTallied each block.old.items block.new.items
+        × IsTally kind each front ledger.old counted start (W.written sink.old) }
+    ensures ok { IfOk result (λ n. IsTallied kind each block.old.items block.new.items
         ledger.old counted (W.written sink.old) ledger.new n (W.written sink.new)) }
     ensures long { IfErr result (λ e. IsLong e (counted + length block.old.items)) }
     ensures reads { IfErr result (λ e. survey_failed_reads e ≡ 0) }
@@ -88,7 +91,9 @@ fn count_whole<R: Threads + Wait + Sync, W: Sink, G: Gate>(
 {
     match queue {
         Some(queue) if !each => {
-            return count_offered(rt, alloc, queue, ledger, counted, block, seen, kept, gate);
+            return count_offered(
+                rt, alloc, kind, queue, ledger, counted, block, seen, kept, gate,
+            );
         }
         _ => {}
     }
@@ -96,6 +101,7 @@ fn count_whole<R: Threads + Wait + Sync, W: Sink, G: Gate>(
     let total = count_part(
         rt,
         alloc,
+        kind,
         sink,
         each,
         ledger,
@@ -112,11 +118,12 @@ fn count_whole<R: Threads + Wait + Sync, W: Sink, G: Gate>(
 fn count_blocks<T: Threads + Wait + Sync, R: Source, W: Sink, G: Gate>(
     rt: &T,
     alloc: Global,
+    kind: LineKind,
     source: &mut R,
     sink: &mut W,
     each: bool,
     chunk: &mut [u8],
-    ledger: &mut Ledger,
+    ledger: &mut SurveyLedger,
     block: &mut Vec<u8>,
     workers: usize,
     queue: Option<&WorkQueue>,
@@ -126,8 +133,8 @@ fn count_blocks<T: Threads + Wait + Sync, R: Source, W: Sink, G: Gate>(
     requires writes { CanGrow (W.write_failures sink.old) }
     requires room { 0 < length chunk.old }
     requires empty { block.old.items ≡ [] }
-    requires none { IsLedger [] ledger.old }
-    ensures whole { OnOk result (IsSurveyOfRead (R.left source.old) (R.left source.new) ledger.new
+    requires none { IsSurveyLedger [] ledger.old }
+    ensures whole { OnOk result (IsSurveyOfRead kind (R.left source.old) (R.left source.new) ledger.new
         each (W.written sink.old) (W.written sink.new)) }
     ensures met { OnOk result (R.is_ended source.new ≡ true) }
     ensures all { OnOk result (IsAtEnd (R.left source.new)) }
@@ -140,14 +147,16 @@ fn count_blocks<T: Threads + Wait + Sync, R: Source, W: Sink, G: Gate>(
     let mut seen = 0;
     'filled: while fill(source, chunk, block, each)? {
         counted = count_whole(
-            rt, alloc, sink, each, ledger, counted, block, seen, workers, queue, KEPT, gate,
+            rt, alloc, kind, sink, each, ledger, counted, block, seen, workers, queue, KEPT, gate,
         )?;
         seen = block.len();
     }
     counted = count_whole(
-        rt, alloc, sink, each, ledger, counted, block, seen, workers, queue, 0, gate,
+        rt, alloc, kind, sink, each, ledger, counted, block, seen, workers, queue, 0, gate,
     )?;
-    count_part(rt, alloc, sink, each, ledger, counted, block, workers, gate)?;
+    count_part(
+        rt, alloc, kind, sink, each, ledger, counted, block, workers, gate,
+    )?;
     Ok(())
 }
 
@@ -156,19 +165,20 @@ fn count_blocks<T: Threads + Wait + Sync, R: Source, W: Sink, G: Gate>(
 fn count_by_workers<T: Threads + Wait + Sync, R: Source, W: Sink, G: Gate>(
     rt: &T,
     alloc: Global,
+    kind: LineKind,
     source: &mut R,
     sink: &mut W,
     each: bool,
     chunk: &mut [u8],
-    ledger: &mut Ledger,
+    ledger: &mut SurveyLedger,
     workers: usize,
     gate: &G,
 ) -> Result<(), SurveyError>
     requires reads { CanGrow (R.read_failures source.old) }
     requires writes { CanGrow (W.write_failures sink.old) }
     requires room { 0 < length chunk.old }
-    requires none { IsLedger [] ledger.old }
-    ensures whole { OnOk result (IsSurveyOfRead (R.left source.old) (R.left source.new) ledger.new
+    requires none { IsSurveyLedger [] ledger.old }
+    ensures whole { OnOk result (IsSurveyOfRead kind (R.left source.old) (R.left source.new) ledger.new
         each (W.written sink.old) (W.written sink.new)) }
     ensures met { OnOk result (R.is_ended source.new ≡ true) }
     ensures all { OnOk result (IsAtEnd (R.left source.new)) }
@@ -181,7 +191,7 @@ fn count_by_workers<T: Threads + Wait + Sync, R: Source, W: Sink, G: Gate>(
     let block = &mut block;
     if each || workers < 2 {
         return count_blocks(
-            rt, alloc, source, sink, each, chunk, ledger, block, workers, None, gate,
+            rt, alloc, kind, source, sink, each, chunk, ledger, block, workers, None, gate,
         );
     }
     // The room of the block is taken before the threads take theirs.
@@ -192,8 +202,8 @@ fn count_by_workers<T: Threads + Wait + Sync, R: Source, W: Sink, G: Gate>(
     let queue = &queue;
     let mut counting = || -> Result<(), SurveyError>
         requires { CanGrow (R.read_failures source.now) × CanGrow (W.write_failures sink.now)
-            × (0 < length chunk.now) × IsLedger [] ledger.now × (block.now.items ≡ []) }
-        ensures { OnOk result (IsSurveyOfRead (R.left source.entry.now) (R.left source.exit.now) ledger.exit.now
+            × (0 < length chunk.now) × IsSurveyLedger [] ledger.now × (block.now.items ≡ []) }
+        ensures { OnOk result (IsSurveyOfRead kind (R.left source.entry.now) (R.left source.exit.now) ledger.exit.now
             each (W.written sink.entry.now) (W.written sink.exit.now))
             × OnOk result (R.is_ended source.exit.now ≡ true)
             × OnOk result (IsAtEnd (R.left source.exit.now))
@@ -205,6 +215,7 @@ fn count_by_workers<T: Threads + Wait + Sync, R: Source, W: Sink, G: Gate>(
         count_blocks(
             rt,
             alloc,
+            kind,
             source,
             sink,
             each,
@@ -216,7 +227,7 @@ fn count_by_workers<T: Threads + Wait + Sync, R: Source, W: Sink, G: Gate>(
             gate,
         )
     };
-    with_workers(rt, alloc, queue, workers, gate, &mut counting)
+    with_workers(rt, alloc, kind, queue, workers, gate, &mut counting)
 }
 
 /// Reads the lines of a source to its end, a recording each, judges them by this many workers, at most `MAX_WORKERS`,
@@ -231,17 +242,18 @@ fn count_by_workers<T: Threads + Wait + Sync, R: Source, W: Sink, G: Gate>(
 pub fn survey<T: Threads + Wait + Sync, R: Source, W: Sink, G: Gate>(
     rt: &T,
     alloc: Global,
+    kind: LineKind,
     source: &mut R,
     sink: &mut W,
     each: bool,
     workers: usize,
     gate: &G,
-) -> Result<Ledger, SurveyError>
+) -> Result<SurveyLedger, SurveyError>
     requires reads { CanGrow (R.read_failures source.old) }
     requires writes { CanGrow (W.write_failures sink.old) }
-    ensures whole { IfOk result (λ ledger. IsSurveyOfRead (R.left source.old) (R.left source.new) ledger
+    ensures whole { IfOk result (λ ledger. IsSurveyOfRead kind (R.left source.old) (R.left source.new) ledger
         each (W.written sink.old) (W.written sink.new)) }
-    ensures known { IfOk result (λ ledger. IfSome (R.left source.old) (λ bytes. IsSurvey bytes ledger
+    ensures known { IfOk result (λ ledger. IfSome (R.left source.old) (λ bytes. IsSurvey kind bytes ledger
         each (W.written sink.old) (W.written sink.new))) }
     ensures met { OnOk result (R.is_ended source.new ≡ true) }
     ensures all { OnOk result (IsAtEnd (R.left source.new)) }
@@ -255,13 +267,14 @@ pub fn survey<T: Threads + Wait + Sync, R: Source, W: Sink, G: Gate>(
     ensures texts { EverySurveyTellsTheSame }
 {
     a_survey_is_one();
-    let mut ledger = Ledger::count(alloc, &[])?;
+    let mut ledger = SurveyLedger::count(alloc, &[])?;
     let Ok(mut chunk) = Vec::from_elem(alloc, 0u8, CHUNK) else {
         return Err(SurveyError::OutOfMemory);
     };
     count_by_workers(
         rt,
         alloc,
+        kind,
         source,
         sink,
         each,

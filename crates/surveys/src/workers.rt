@@ -2,6 +2,7 @@
 
 ghost use Rattle.std.specs.Prelude.{◌≡◌};
 
+use crate::kind::LineKind;
 use crate::queue::WorkQueue;
 use common::{Gate, MAX_WORKERS};
 use std::alloc::Global;
@@ -14,12 +15,13 @@ fn start_workers<'s, E, R: Threads + Wait + Sync, G: Gate>(
     scope: &Scope<'s, E>,
     rt: &'s R,
     alloc: Global,
+    kind: LineKind,
     queue: &'s WorkQueue,
     workers: usize,
     gate: &'s G,
 ) {
     for worker in 1..workers.min(MAX_WORKERS) {
-        let _ = scope.spawn(move || queue.work(rt, alloc, gate, worker));
+        let _ = scope.spawn(move || queue.work(rt, alloc, kind, gate, worker));
     }
 }
 
@@ -56,7 +58,7 @@ pub(crate) fn with_workers<'a, R: Threads + Wait + Sync, G: Gate, F: FnMut() -> 
             ensures { (result.0.ghost_name ≡ lent.entry.f.ghost_name)
                 × F.step lent.entry.f.now result.1 result.0.now }
         {
-            start_workers(scope, rt, alloc, queue, workers, gate);
+            start_workers(scope, rt, alloc, kind, queue, workers, gate);
             let Lent { f } = lent;
             let answer = f();
             queue.close(rt);

@@ -14,7 +14,7 @@ use std::sync::atomic::{AtomicBool, AtomicU64, Ordering};
 use std::test::Fail;
 use std::thread::Threads;
 use std::time::{Duration, Instant};
-use surveys::survey;
+use surveys::{LineKind, survey};
 
 /// How long a campaign of one worker takes from the beginning of each trial to its end.
 struct Lasting<'a> {
@@ -175,7 +175,16 @@ fn is_prompt<R: Threads + Wait + Sync>(
         lines: 0,
         flushed: &flushed,
     };
-    let surveyed = survey(rt, alloc, &mut source, &mut sink, true, workers, &gate);
+    let surveyed = survey(
+        rt,
+        alloc,
+        LineKind::Recording,
+        &mut source,
+        &mut sink,
+        true,
+        workers,
+        &gate,
+    );
     Ok(surveyed.is_ok() && !gate.late.load(Ordering::SeqCst))
 }
 

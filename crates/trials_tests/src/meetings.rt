@@ -15,7 +15,7 @@ use std::sync::atomic::{AtomicBool, AtomicU64, Ordering};
 use std::test::Fail;
 use std::thread;
 use std::thread::Threads;
-use surveys::survey;
+use surveys::{LineKind, survey};
 
 /// Where each worker waits, when it is there first, until all are.
 #[derive(Drop)]
@@ -192,7 +192,16 @@ fn is_survey_met<R: Threads + Wait + Sync>(
         is_late: false,
     };
     let mut sink = MemorySink::new(alloc);
-    let surveyed = survey(rt, alloc, &mut source, &mut sink, each, workers, &gate);
+    let surveyed = survey(
+        rt,
+        alloc,
+        LineKind::Recording,
+        &mut source,
+        &mut sink,
+        each,
+        workers,
+        &gate,
+    );
     Ok(surveyed.is_ok() && gate.hall.has_met())
 }
 

@@ -12,7 +12,7 @@ use std::sync::Wait;
 use std::sync::atomic::{AtomicBool, AtomicU64, Ordering};
 use std::test::Fail;
 use std::thread::Threads;
-use surveys::survey;
+use surveys::{LineKind, survey};
 use trials::Campaign;
 
 /// What was told of each trial or recording, by worker w of eight: 1 + w that it begins, 16 more that it is a
@@ -166,7 +166,16 @@ fn is_survey_told<R: Threads + Wait + Sync>(
     let gate = Told::new(alloc, 512)?;
     let mut source = MemorySource::new(lines.as_bytes());
     let mut sink = MemorySink::new(alloc);
-    let Ok(_) = survey(rt, alloc, &mut source, &mut sink, each, workers, &gate) else {
+    let Ok(_) = survey(
+        rt,
+        alloc,
+        LineKind::Recording,
+        &mut source,
+        &mut sink,
+        each,
+        workers,
+        &gate,
+    ) else {
         return Ok(false);
     };
     Ok(gate.is_right(256, Some(1)))

@@ -6,6 +6,7 @@ use Rattle.verdicts.specs.declared.outcome.Outcome.{Outcome}
 use Rattle.verdicts.specs.declared.outcome.Outcome.TheVariants as outcome
 use Rattle.verdicts.specs.declared.printed.Answer.{Answer}
 use Rattle.verdicts.specs.Outcomes.{status_of}
+use Rattle.surveys.specs.declared.kind.LineKind.TheVariants.{Recording}
 use Rattle.surveys.specs.Coded.{AreLineCodes}
 use Rattle.tsotest_library.specs.Given.{AreCodesAnswered, IsAnswered, IsNothing, IsOutcomeOf, IsWrittenWhole}
 use Rattle.tsotest_library.proofs.Outcomes.{ComesOut}
@@ -84,7 +85,7 @@ put_3 well zero out (answered a is given written) same = record {
 put_3 well zero out (unanswered error nothing) same = absurd (omega (arith, error, same))
 
 -- codes are put, of a survey that comes out so
-pub codes_put : {lines codes old new : List ℕ} {n : ℕ} {o : Outcome} (well : Outcome) → AreLineCodes lines codes
+pub codes_put : {lines codes old new : List ℕ} {n : ℕ} {o : Outcome} (well : Outcome) → AreLineCodes Recording lines codes
     → IsOutcomeOf codes o → IsWrittenWhole codes old new n → o ≡ well → AreCodesAnswered lines well old new n
 codes_put {lines} {codes} well are is written same = record {
   codes = codes;

@@ -7,6 +7,7 @@ use Rattle.verdicts.specs.declared.outcome.Outcome.{Outcome}
 use Rattle.verdicts.specs.declared.outcome.Outcome.TheVariants.{Refused}
 use Rattle.verdicts.specs.declared.printed.Answer.{Answer}
 use Rattle.answers.specs.Campaign.{ledger_outcome}
+use Rattle.surveys.specs.declared.kind.LineKind.TheVariants.{Recording}
 use Rattle.surveys.specs.Coded.{AreLineCodes}
 
 -- a text, n long, stands at the front of the buffer where it has room; else the buffer stays
@@ -36,7 +37,7 @@ pub record IsOutcomeOf (codes : List ℕ) (outcome : Outcome) : Type 0 where
 -- the codes of what is found in the lines, in order, and the outcome of a survey of them
 pub record AreCodesAnswered (lines : List ℕ) (outcome : Outcome) (old new : List ℕ) (n : ℕ) : Type 0 where
   pub codes : List ℕ
-  pub are : AreLineCodes lines codes
+  pub are : AreLineCodes Recording lines codes
   pub outcome_is : IsOutcomeOf codes outcome
   pub written : IsWrittenWhole codes old new n
 

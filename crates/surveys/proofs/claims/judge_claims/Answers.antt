@@ -8,7 +8,8 @@ loop-init g c = rw c.new-claims.ensures.items (λ k d low. absurd (omega (arith,
 
 pub loop-preserved : goal.loop-preserved
 loop-preserved g c = rw c.in-Ok-push.ensures.items
-    (All-push (λ x. IsFoundAt c.args.lines.now x.place x.finding) c.loop.claims.items c.in-Ok.claim c.loop.invariant
+    (All-push (λ x. IsFoundAt c.args.kind c.args.lines.now x.place x.finding) c.loop.claims.items c.in-Ok.claim
+    c.loop.invariant
     c.in-Ok.ensures)
 
 pub returns-after-loop : goal.returns-after-loop

@@ -9,7 +9,8 @@ returns g c =
     let line : List ℕ = c.args.line.now in
     let some : 0 < length line = omega (arith, eqb-false (length line) 0 (sym c.if-is_empty.ensures)) in (
       c.in_ok-finding.finding ∷ [],
-      subst (λ (ls : List (List ℕ)). AreFindings ls (c.in_ok-finding.finding ∷ [])) (sym (one_line line some))
+      subst (λ (ls : List (List ℕ)). AreFindings c.args.kind ls (c.in_ok-finding.finding ∷ []))
+          (sym (one_line line some))
           (c.in_ok-finding.ensures, tt),
       search rules,
     )

@@ -3,7 +3,7 @@ use Rattle.surveys.specs.Coded.{AreCodesUpTo}
 use Rattle.surveys.proofs.coded.judge_lines.Given as goal
 
 abbrev pub invariant-lines : goal.invariant-lines
-invariant-lines g l = AreCodesUpTo l.bytes l.rest l.codes.items
+invariant-lines g l = AreCodesUpTo l.kind l.bytes l.rest l.codes.items
 
 abbrev pub decreases-lines : goal.decreases-lines
 decreases-lines g l = length l.rest

@@ -5,5 +5,5 @@ use Rattle.surveys.proofs.counting.all_findings.Given as goal
 abbrev pub invariant-loop-i : goal.invariant-loop-i
 invariant-loop-i l = record {
   size : length l.findings.items ≡ l.i;
-  each : AreFoundBelow l.lines l.i l.findings.items;
+  each : AreFoundBelow l.kind l.lines l.i l.findings.items;
 }

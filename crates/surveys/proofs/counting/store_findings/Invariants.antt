@@ -5,5 +5,5 @@ use Rattle.surveys.proofs.counting.store_findings.Given as goal
 abbrev pub invariant-loop-claims_of_one : goal.invariant-loop-claims_of_one
 invariant-loop-claims_of_one l = record {
   size : length l.places ≡ length l.lines;
-  places : ArePlaces l.lines l.places;
+  places : ArePlaces l.kind l.lines l.places;
 }

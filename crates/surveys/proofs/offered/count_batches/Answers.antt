@@ -9,13 +9,13 @@ pub batches-init : goal.batches-init
 batches-init g c = record {
   within = omega arith;
   size = omega arith;
-  tallied = λ w. none_tallied false c.args.bytes.now c.args.ledger.now c.args.counted w;
+  tallied = λ w. none_tallied c.args.kind false c.args.bytes.now c.args.ledger.now c.args.counted w;
 }
 
 pub count_batch-requires : goal.count_batch-requires
 count_batch-requires g c =
     let r = c.requires in
-    tally_on c.args.bytes.now (drop c.batches.from c.args.bytes.now) r.0 c.args.ledger.now c.batches.ledger
+    tally_on c.args.kind c.args.bytes.now (drop c.batches.from c.args.bytes.now) r.0 c.args.ledger.now c.batches.ledger
     c.args.counted c.batches.total r.1 r.2 r.3 (c.batches.invariant.tallied r.2)
 
 pub batches-preserved : goal.batches-preserved
@@ -31,7 +31,7 @@ batches-preserved g c =
       );
       size = omega (arith, c.batches.invariant.size, c.in_ok-more.ensures.size);
       tallied = λ w.
-          tallied_from bytes _ c.batches.from c.in_ok-more.length c.args.ledger.now c.batches.ledger
+          tallied_from c.args.kind bytes _ c.batches.from c.in_ok-more.length c.args.ledger.now c.batches.ledger
           c.count_batch.new.ledger c.args.counted c.batches.total c.in_ok-more.more w c.batches.invariant.within rest
           (c.batches.invariant.tallied w) (c.in_ok-more.ensures.ok w);
     }
@@ -39,7 +39,8 @@ batches-preserved g c =
 pub returns-then-length-eq0-clause-ok : goal.returns-then-length-eq0-clause-ok
 returns-then-length-eq0-clause-ok g c = λ w.
     let bytes : List ℕ = c.args.bytes.now in
-    tallied_from bytes _ c.batches.from c.in_ok-more.length c.args.ledger.now c.batches.ledger c.count_batch.new.ledger
+    tallied_from c.args.kind bytes _ c.batches.from c.in_ok-more.length c.args.ledger.now c.batches.ledger
+    c.count_batch.new.ledger
     c.args.counted c.batches.total c.in_ok-more.more w c.batches.invariant.within (take_rest bytes c.batches.from)
     (c.batches.invariant.tallied w) (c.in_ok-more.ensures.ok w)
 

@@ -7,7 +7,8 @@ invariant-batches g l = record {
   within : l.from ≤ length l.bytes;
   size : l.total ≡ l.counted + l.from;
   tallied :
-      (w : Option (List ℕ)) → IsTallied false l.bytes (drop l.from l.bytes) l.fn.ledger l.counted w l.ledger l.total w;
+      (w : Option (List ℕ)) → IsTallied l.kind false l.bytes
+      (drop l.from l.bytes) l.fn.ledger l.counted w l.ledger l.total w;
 }
 
 abbrev pub decreases-batches : goal.decreases-batches

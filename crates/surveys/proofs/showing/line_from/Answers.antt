@@ -66,7 +66,13 @@ returns-in_default-clause-long g c =
     long_before _ (g.R.Source.left c.filled.source) _ c.args.number c.filled.left c.filled.counted
     c.filled.block.items c.fill.new.block.items c.filled.invariant.before c.in_ok-fill.ensures.gathered TooLong
     c.in_ok-sought.end
-    (omega (arith, first.size, ap (λ (l : List ℕ). length l) first.cut, length-append first.front c.line_in_whole.new.block.items))
+    (omega (
+      arith,
+      first.size,
+      ap (λ (l : List ℕ). length l) first.cut,
+      length-append first.front
+          c.line_in_whole.new.block.items,
+    ))
     (omega (arith, c.in_default.ensures))
 
 pub returns-in_err-read_rest-in-Found-clause-long : goal.returns-in_err-read_rest-in-Found-clause-long

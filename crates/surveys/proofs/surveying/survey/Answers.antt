@@ -6,8 +6,9 @@ use Rattle.surveys.proofs.surveying.survey.Goals as goal
 
 pub returns-clause-known : goal.returns-clause-known
 returns-clause-known g c =
-    all_known (g.R.Source.left c.args.source.now) (g.R.Source.left c.count_by_workers.new.source)
-    c.count_by_workers.new.ledger c.args.each _ _ c.in_ok-count_by_workers.ensures.whole c.in_ok-count_by_workers.ensures.all
+    all_known c.args.kind (g.R.Source.left c.args.source.now) (g.R.Source.left c.count_by_workers.new.source)
+    c.count_by_workers.new.ledger c.args.each _ _ c.in_ok-count_by_workers.ensures.whole
+    c.in_ok-count_by_workers.ensures.all
 
 pub returns-in_err-count_by_workers-clause-long_known : goal.returns-in_err-count_by_workers-clause-long_known
 returns-in_err-count_by_workers-clause-long_known g c = from_err _ c.in_err-count_by_workers.field-0.0
