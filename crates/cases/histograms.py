@@ -52,9 +52,9 @@ def counted(program, command, path, options, runs, seed):
     return 2 if violations else 4 if unfinished else 0, "".join(f"{line}\n" for line in lines)
 
 
-def is_histogram(program, path, options, runs, seed, workers):
+def is_histogram(program, path, options, runs, seed):
     """Whether `run --runs` prints what its runs come to one by one."""
-    words = [program, "run", str(path), *options, "--runs", str(runs), "--seed", str(seed), "--workers", str(workers)]
+    words = [program, "run", str(path), *options, "--runs", str(runs), "--seed", str(seed)]
     done = subprocess.run(words, capture_output=True, timeout=60)
     return (done.returncode, done.stdout.decode()) == counted(program, "run", path, options, runs, seed)
 

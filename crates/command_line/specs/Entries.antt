@@ -14,6 +14,7 @@ use Rattle.machine.specs.declared.fault.Fault.TheVariants as fault
 use Rattle.command_line.specs.declared.options.Limits.{Limits}
 use Rattle.command_line.specs.declared.options.Misfit.{Misfit}
 use Rattle.command_line.specs.declared.options.Misfit.TheVariants.{EachWithShow, CompleteWithShow, ReduceWithoutShow}
+use Rattle.command_line.specs.declared.options.Misfit.TheVariants.{StatesWithoutComplete}
 use Rattle.command_line.specs.declared.options.Misfit.TheVariants.{RunsWithSteps, TwoQuestions, UnseenWithoutObserved}
 use Rattle.command_line.specs.declared.options.TheConstants.{DEFAULT_FAULT}
 use Rattle.command_line.specs.declared.table.Takes.{Takes}
@@ -109,17 +110,26 @@ question_misfit rows = if nat_lt 1 (questions rows) then Some TwoQuestions
     else (if is_given (codes "unseen") rows && (given (codes "observed") rows == 0) then Some UnseenWithoutObserved
     else None)
 
+-- the words are those of a survey without --complete: no other command has an entry for this flag
+abbrev pub surveys_recordings : List Row → Bool
+surveys_recordings rows = option_map_or (λ text. bytes_eq text (codes "false")) (first_of (codes "complete") rows) false
+
+-- the options of survey that don't go together: --complete with --show, or --states without --complete
+abbrev pub survey_misfit : List Row → Option Misfit
+survey_misfit rows =
+    if is_some (show_of rows) && is_given (codes "complete") rows then Some CompleteWithShow
+    else (if is_some (one_of (codes "states") rows) && surveys_recordings rows then Some StatesWithoutComplete
+    else None)
+
 -- the options of runs that don't go together: --runs with --steps
 abbrev pub runs_misfit : List Row → Option Misfit
 runs_misfit rows = if is_some (runs_of rows) && not (given (codes "steps") rows == 0) then Some RunsWithSteps else None
 
--- the options that don't go together: --each or --complete with --show, or --reduce without it, or those of outcomes, or
--- of runs
+-- the options that don't go together: --each with --show, or --reduce without it, or those of survey, of outcomes or of runs
 abbrev pub misfit_of : List Row → Option Misfit
 misfit_of rows = if is_some (show_of rows) && is_given (codes "each") rows then Some EachWithShow
-    else (if is_some (show_of rows) && is_given (codes "complete") rows then Some CompleteWithShow
     else (if not (is_some (show_of rows)) && is_given (codes "reduce") rows then Some ReduceWithoutShow
-    else option_or (question_misfit rows) (runs_misfit rows)))
+    else option_or (survey_misfit rows) (option_or (question_misfit rows) (runs_misfit rows)))
 
 -- the entry, where there is one, is a number of 64 bits
 abbrev pub HasNumber : Text → List Row → Type 0

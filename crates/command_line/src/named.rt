@@ -103,7 +103,6 @@ fn run_options(
         buffer: values.buffer,
         fault: values.fault,
         runs: values.runs,
-        workers: values.workers,
     })
 }
 

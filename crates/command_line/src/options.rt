@@ -124,8 +124,6 @@ pub struct RunOptions {
     pub fault: Fault,
     /// How many random runs a histogram counts, 1 to 2^32 - 1; none asks for one run and its recording.
     pub runs: Option<usize>,
-    /// How many workers share the runs that are counted at most, 1 to `MAX_WORKERS`.
-    pub workers: usize,
 }
 
 /// What `judge` is asked: the name of the recording, and how many workers judge it at most.
@@ -299,6 +297,8 @@ pub enum Misfit {
     CompleteWithShow,
     /// `--reduce` cuts down what `--show` shows.
     ReduceWithoutShow,
+    /// `--states` of a survey belongs to `--complete`.
+    StatesWithoutComplete,
     /// Two of `--observed`, `--exists`, `--never` and `--show` ask different things.
     TwoQuestions,
     /// `--unseen` belongs to `--observed`.
@@ -319,6 +319,11 @@ impl Display for Misfit {
             Misfit::ReduceWithoutShow => {
                 f.write_str(
                     "error: the following required arguments were not provided:\n  --show <K>",
+                )?;
+            }
+            Misfit::StatesWithoutComplete => {
+                f.write_str(
+                    "error: the following required arguments were not provided:\n  --complete",
                 )?;
             }
             Misfit::TwoQuestions => {

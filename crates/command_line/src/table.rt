@@ -290,9 +290,7 @@ const SHOW_ITEMS: ArgumentRow = ArgumentRow {
 pub const COMMANDS: &[CommandRow] = &[
     CommandRow {
         name: "run",
-        arguments: &[
-            PROGRAM, STEPS, SEED, ATTEMPTS, BUFFER, FAULT, RUNS, WORKERS, WORDS,
-        ],
+        arguments: &[PROGRAM, STEPS, SEED, ATTEMPTS, BUFFER, FAULT, RUNS, WORDS],
     },
     CommandRow {
         name: "judge",

@@ -29,7 +29,7 @@ const LINES: usize = 16_384;
 const TOLD_LINES: usize = 64;
 
 /// Puts what a worker found to its places.
-fn store_claims(places: &mut [Option<Finding>], lines: &[&[u8]], claims: &[Claim])
+fn store_claims(kind: LineKind, places: &mut [Option<Finding>], lines: &[&[u8]], claims: &[Claim])
     requires size { length places.old ≡ length lines.now }
     requires places { ArePlaces kind lines.now places.old }
     requires claims { AreClaims kind lines.now claims.now }
@@ -42,7 +42,12 @@ fn store_claims(places: &mut [Option<Finding>], lines: &[&[u8]], claims: &[Claim
 }
 
 /// Puts what all workers found to its places.
-fn store_findings(places: &mut [Option<Finding>], lines: &[&[u8]], claims_of_workers: &[Vec<Claim>])
+fn store_findings(
+    kind: LineKind,
+    places: &mut [Option<Finding>],
+    lines: &[&[u8]],
+    claims_of_workers: &[Vec<Claim>],
+)
     requires size { length places.old ≡ length lines.now }
     requires places { ArePlaces kind lines.now places.old }
     requires claims { All (λ claims_of_one. AreClaims kind lines.now claims_of_one.items) claims_of_workers.now }
@@ -50,7 +55,7 @@ fn store_findings(places: &mut [Option<Finding>], lines: &[&[u8]], claims_of_wor
     ensures places { ArePlaces kind lines.now places.new }
 {
     for claims_of_one in claims_of_workers {
-        store_claims(places, lines, claims_of_one);
+        store_claims(kind, places, lines, claims_of_one);
     }
 }
 
@@ -107,7 +112,7 @@ fn findings_of<R: Threads + Sync, G: Gate>(
 {
     let claims_of_workers = claims_by(rt, alloc, kind, lines, first, workers, gate)?;
     let mut places = Vec::from_elem(alloc, None, lines.len())?;
-    store_findings(&mut places, lines, &claims_of_workers);
+    store_findings(kind, &mut places, lines, &claims_of_workers);
     all_findings(alloc, kind, lines, &places)
 }
 

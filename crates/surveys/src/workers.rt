@@ -41,6 +41,7 @@ fn take_back<T>(x: &mut T)
 pub(crate) fn with_workers<'a, R: Threads + Wait + Sync, G: Gate, F: FnMut() -> A, A>(
     rt: &R,
     alloc: Global,
+    kind: LineKind,
     queue: &WorkQueue,
     workers: usize,
     gate: &G,
