@@ -4,8 +4,8 @@ ghost use Rattle.std.specs.Io.KnownBytes.{Appends};
 ghost use Rattle.devices.specs.Bytes.{CanGrow, CountsBy};
 ghost use Rattle.surveys.specs.Surveys.{told_text};
 ghost use Rattle.inputs.specs.Inputs.{CanRead, ReadsNamed, ReadsInput, command_failed_writes};
-ghost use Rattle.commands.specs.Survey.{IsCountsAnswer, IsEachError, IsEachWritten, IsSurveyed, IsSurveyOf, IsSurveyStop};
-ghost use Rattle.commands.specs.Survey.{TellsEach, line_kind};
+ghost use Rattle.commands.specs.Survey.{IsCountsAnswer, IsEachError, IsEachWritten, IsSurveyed, IsSurveyOf};
+ghost use Rattle.commands.specs.Survey.{IsSurveyStop, TellsEach, line_kind};
 
 use crate::output::put;
 use answers::{line_answer, survey_answer, values_survey_answer};

@@ -1,6 +1,5 @@
 -- What a survey counts: a ledger, and what is unfinished and what is unread.
-use Rattle.std.specs.Prelude.{◌≡◌, ◌+◌, ◌<◌, ◌^◌, ◌++◌, ℕ, Bool, List, count_by, length, position}
-use Rattle.ledger.specs.declared.ledger.Ledger.{Ledger}
+use Rattle.std.specs.Prelude.{◌≡◌, ◌+◌, ◌<◌, ◌^◌, ℕ, Bool, List, count_by, length, position}
 use Rattle.ledger.specs.declared.survey_ledger.KindCount.{KindCount}
 use Rattle.ledger.specs.declared.survey_ledger.SurveyLedger.{SurveyLedger}
 use Rattle.ledger.specs.Counts.{IsLedger}

@@ -85,8 +85,9 @@ put_3 well zero out (answered a is given written) same = record {
 put_3 well zero out (unanswered error nothing) same = absurd (omega (arith, error, same))
 
 -- codes are put, of a survey that comes out so
-pub codes_put : {lines codes old new : List ℕ} {n : ℕ} {o : Outcome} (well : Outcome) → AreLineCodes Recording lines codes
-    → IsOutcomeOf codes o → IsWrittenWhole codes old new n → o ≡ well → AreCodesAnswered lines well old new n
+pub codes_put : {lines codes old new : List ℕ} {n : ℕ} {o : Outcome} (well : Outcome)
+    → AreLineCodes Recording lines codes → IsOutcomeOf codes o → IsWrittenWhole codes old new n → o ≡ well
+    → AreCodesAnswered lines well old new n
 codes_put {lines} {codes} well are is written same = record {
   codes = codes;
   are = are;
