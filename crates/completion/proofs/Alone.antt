@@ -8,6 +8,7 @@ use Rattle.recording.specs.declared.event.Event.TheVariants.{L, S, R, C, F}
 use Rattle.recording.specs.Event.{is_plain_store, is_plain_load, read_address, written_address, value_read, value_written}
 use Rattle.recording.specs.Execution.{Execution, placed_from, event_count, core_of, event_at, initial_value, Reads, Writes}
 use Rattle.recording.specs.Execution.{ProgramOrder, Kept}
+use Rattle.recording.specs.EventLaws.{Writes-event}
 use Rattle.values.specs.Values.{unsourced, Values, IsCompletion}
 use Rattle.values.specs.Refused.{events_alone}
 use Rattle.completion.specs.declared.table.Placed.{Placed}
@@ -51,7 +52,7 @@ tagged_unsourced k (e ∷ es) rest more h =
     ap (λ (l : List (ℕ × Event)). one ∷ l) (tagged_unsourced k es rest more h)
 
 -- of all cores
-placed_alone : (k : ℕ) (cores : List (List Event))
+pub placed_alone : (k : ℕ) (cores : List (List Event))
     → placed_from k (map (λ es. map unsourced es) cores) ≡ map placed_unsourced (placed_from k cores)
 placed_alone k [] = refl
 placed_alone k (es ∷ cores) = tagged_unsourced k es (placed_from (k + 1) (map (λ fs. map unsourced fs) cores))
@@ -141,3 +142,8 @@ pub table_core : (v : Values) (items : List Placed) (e : ℕ) (d : Placed) → I
     → core_of (events_alone v) e ≡ (get_or items e d).core
 unfolding core_of
 table_core v items e d h there = ap (λ (p : ℕ × Event). p.0) (table_at v items e d h there)
+
+-- what writes stands in the table
+pub write_inside : (v : Values) (items : List Placed) (w a : ℕ) → IsTable v items → Writes (events_alone v) w a
+    → w < length items
+write_inside v items w a h writes = omega (arith, Writes-event (events_alone v) w a writes, table_size v items h)

@@ -81,7 +81,7 @@ fn join(rows: &mut [BitRow], middle: usize, later: &BitRow)
 }
 
 /// The same row in memory of its own.
-fn copy(alloc: Global, row: &BitRow, count: usize) -> Result<BitRow, OutOfMemory>
+pub(crate) fn copy(alloc: Global, row: &BitRow, count: usize) -> Result<BitRow, OutOfMemory>
     requires { length row.now ≡ count }
     ensures size { IfOk result (λ r. length r ≡ count) }
     ensures numbers { IfOk result (λ r. (j : ℕ) → is_in r j ≡ is_in row.now j) }

@@ -1,0 +1,29 @@
+use Rattle.std.proofs.Common.{◌≡◌, true, false, arith, sym, ◌∙◌}
+use Rattle.completion.proofs.Alone.{table_size}
+use Rattle.completion.proofs.Fed.{needed_more, tried_needed}
+use Rattle.completion.proofs.part.try_each.Goals as goal
+use Rattle.completion.proofs.part.try_each.Goals.{then-test+in_ok-row+in_ok-tried+else-not-is_allowed+in-Less-1, then-test+in_ok-row+in_ok-tried+else-not-is_allowed+in-Allowed-1, else-test}
+
+pub test-requires : goal.test-requires
+test-requires c = omega (
+  arith,
+  c.loop-e-test.true,
+  c.requires.left.size,
+  table_size c.args.values.now c.args.table.now c.requires.table,
+)
+
+pub without_event-requires-clause-size : goal.without_event-requires-clause-size
+without_event-requires-clause-size c =
+    c.requires.left.size ∙ sym (table_size c.args.values.now c.args.table.now c.requires.table)
+
+pub loop-e-preserved : goal.loop-e-preserved
+loop-e-preserved c = needed_more c.args.values.now c.args.left.now c.loop-e.e c.loop-e.invariant (λ inside.
+    elim c.if-test.branch [
+      | then-test+in_ok-row+in_ok-tried+else-not-is_allowed+in-Less-1 w ↦
+          tried_needed c.args.values.now c.args.left.now c.loop-e.e w.in_ok-row.row w.in_ok-tried.tried c.requires.left
+          w.in_ok-row.ensures.numbers (w.is_allowed.ensures.holds w.if-not-is_allowed.false) w.in_ok-tried.ensures
+      | then-test+in_ok-row+in_ok-tried+else-not-is_allowed+in-Allowed-1 w ↦
+          tried_needed c.args.values.now c.args.left.now c.loop-e.e w.in_ok-row.row w.in_ok-tried.tried c.requires.left
+          w.in_ok-row.ensures.numbers (w.is_allowed.ensures.holds w.if-not-is_allowed.false) w.in_ok-tried.ensures
+      | else-test w ↦ absurd (let clash : false ≡ true = sym w.if-test.false ∙ (c.test.ensures ∙ inside) in cc)
+    ])

@@ -1,0 +1,78 @@
+//! What is left of values while events are taken away.
+
+ghost use Rattle.std.specs.Prelude.{◌≡◌, ◌↔◌, ◌<◌, ◌≤◌, ℕ, IfOk, IfSome, length};
+ghost use Rattle.common.specs.declared.limits.TheConstants.{MAX_EVENTS};
+ghost use Rattle.values.specs.Refused.{events_alone};
+ghost use Rattle.completion.specs.Left.{IsInRow, IsLeft, LeavesFed};
+ghost use Rattle.completion.specs.Pairs.{IsTable};
+ghost use Rattle.completion.specs.Part.{AreEvents, IsMember};
+
+use crate::dropping::drop_all_unfed;
+use crate::restricting::restricted;
+use crate::table::Placed;
+use bitrow::BitRow;
+use common::{EventId, OutOfMemory};
+use std::alloc::Global;
+use values::Values;
+
+/// Some events, and the values with these alone.
+#[derive(Drop)]
+pub struct Left {
+    /// The events as a set.
+    pub(crate) row: BitRow,
+    /// Their numbers, ascending.
+    pub(crate) events: Vec<EventId>,
+    /// The values with these events alone.
+    pub(crate) values: Values,
+}
+
+/// The numbers of a row, ascending.
+fn numbers(
+    alloc: Global,
+    values: &Values,
+    table: &[Placed],
+    row: &BitRow,
+) -> Result<Vec<EventId>, OutOfMemory>
+    requires table { IsTable values.now table.now }
+    requires row { length row.now ≡ length table.now }
+    requires few { length table.now ≤ MAX_EVENTS }
+    ensures events { IfOk result (λ kept. AreEvents values.now kept.items) }
+    ensures same { IfOk result (λ kept. (e : ℕ) → IsMember kept.items e ↔ IsInRow row.now e) }
+    ensures few { IfOk result (λ kept. length kept.items ≤ MAX_EVENTS) }
+{
+    let _values = values;
+    let mut kept = Vec::new(alloc);
+    for event in 0..table.len() as EventId {
+        if row.test(event as usize) {
+            kept.push(event)?;
+        }
+    }
+    Ok(kept)
+}
+
+/// What is left of the events of a row where all reads that are not fed among them are taken away, which something may
+/// feed; none where that came to no end. Fails only if out of memory.
+pub(crate) fn left_of(
+    alloc: Global,
+    values: &Values,
+    table: &[Placed],
+    row: BitRow,
+) -> Result<Option<Left>, OutOfMemory>
+    requires table { IsTable values.now table.now }
+    requires row { length row ≡ length table.now }
+    requires few { length table.now ≤ MAX_EVENTS }
+    ensures left { IfOk result (λ o. IfSome o (λ l. IsLeft values.now l)) }
+    ensures leaves { IfOk result (λ o. IfSome o (λ l. LeavesFed values.now row l.row)) }
+{
+    let mut row = row;
+    if !drop_all_unfed(values, table, &mut row) {
+        return Ok(None);
+    }
+    let events = numbers(alloc, values, table, &row)?;
+    let rest = restricted(alloc, values, table, &row, &events)?;
+    Ok(Some(Left {
+        row,
+        events,
+        values: rest,
+    }))
+}

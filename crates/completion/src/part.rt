@@ -1,0 +1,169 @@
+//! Parts of values that TSO does not allow, of which each event is needed.
+
+ghost use Rattle.std.specs.Prelude.{◌≡◌, ◌≢◌, ◌+◌, ◌<◌, ◌≤◌, IfOk, IfSome, IsTrue, false, length};
+ghost use Rattle.common.specs.declared.limits.TheConstants.{MAX_EVENTS};
+ghost use Rattle.completion.specs.Left.{AreTried, IsLeft, IsRefuted, IsTried};
+ghost use Rattle.completion.specs.Pairs.{IsTable};
+ghost use Rattle.completion.specs.Part.{IsPart};
+
+use crate::completing::{Answer, complete};
+use crate::left::{Left, left_of};
+use crate::runs::{all_events, without_event, without_run};
+use crate::table::{Placed, table};
+use bitrow::BitRow;
+use common::{EventId, MAX_EVENTS, OutOfMemory};
+use std::alloc::Global;
+use values::Values;
+
+/// How many situations are looked at where a run of events is taken away.
+const RUN_LIMIT: u32 = 10_000;
+
+/// Some events of values, and the values with these alone.
+#[derive(Drop)]
+pub struct Part {
+    /// The numbers of the events, ascending.
+    pub events: Vec<EventId>,
+    /// The values with these events alone.
+    pub values: Values,
+}
+
+/// What came of trying some events alone.
+#[derive(Drop)]
+pub enum Tried {
+    /// TSO allows their values.
+    Allowed,
+    /// TSO does not allow their values, which are these.
+    Less(Left),
+    /// That is not known.
+    Unknown,
+}
+
+/// Tries the events of a row alone.
+fn try_row(
+    alloc: Global,
+    values: &Values,
+    table: &[Placed],
+    row: BitRow,
+    limit: u32,
+) -> Result<Tried, OutOfMemory>
+    requires table { IsTable values.now table.now }
+    requires row { length row ≡ length table.now }
+    requires few { length table.now ≤ MAX_EVENTS }
+    ensures { IfOk result (λ t. IsTried values.now row t) }
+{
+    let Some(left) = left_of(alloc, values, table, row)? else {
+        return Ok(Tried::Unknown);
+    };
+    match complete(alloc, &left.values, limit)? {
+        Answer::Completed(_recording, _order) => Ok(Tried::Allowed),
+        Answer::Impossible => Ok(Tried::Less(left)),
+        Answer::Unfinished => Ok(Tried::Unknown),
+    }
+}
+
+/// Whether TSO allows the values that were tried.
+fn is_allowed(tried: &Tried) -> bool
+    ensures holds { IsTrue result → tried.now ≡ Tried.Allowed }
+    ensures fails { result ≡ false → tried.now ≢ Tried.Allowed }
+{
+    match tried {
+        Tried::Allowed => true,
+        Tried::Less(_left) => false,
+        Tried::Unknown => false,
+    }
+}
+
+/// Tries to take each event away, the first ones first, until one is not needed.
+fn try_each(
+    alloc: Global,
+    values: &Values,
+    table: &[Placed],
+    left: &Left,
+    limit: u32,
+) -> Result<Tried, OutOfMemory>
+    requires table { IsTable values.now table.now }
+    requires few { length table.now ≤ MAX_EVENTS }
+    requires left { IsLeft values.now left.now }
+    ensures { IfOk result (λ t. AreTried values.now left.now (length table.now) t) }
+{
+    for e in 0..table.len() {
+        if left.row.test(e) {
+            let row = without_event(alloc, table.len(), &left.row, e)?;
+            let tried = try_row(alloc, values, table, row, limit)?;
+            if !is_allowed(&tried) {
+                return Ok(tried);
+            }
+        }
+    }
+    Ok(Tried::Allowed)
+}
+
+/// Takes runs of events away as long as TSO does not allow the rest.
+fn cut(
+    alloc: Global,
+    values: &Values,
+    table: &[Placed],
+    left: Left,
+    limit: u32,
+) -> Result<Left, OutOfMemory>
+    requires table { IsTable values.now table.now }
+    requires few { length table.now ≤ MAX_EVENTS }
+    requires left { IsRefuted values.now left }
+    ensures { IfOk result (λ l. IsRefuted values.now l) }
+{
+    let mut left = left;
+    for run in 1..2 * MAX_EVENTS {
+        if let Some(row) = without_run(alloc, table.len(), &left.row, run)? {
+            if let Tried::Less(less) = try_row(alloc, values, table, row, limit)? {
+                left = less;
+            }
+        }
+    }
+    Ok(left)
+}
+
+/// Takes events away one by one until each is needed; none where it is not known whether one is.
+fn minimal(
+    alloc: Global,
+    values: &Values,
+    table: &[Placed],
+    left: Left,
+    limit: u32,
+) -> Result<Option<Part>, OutOfMemory>
+    requires table { IsTable values.now table.now }
+    requires few { length table.now ≤ MAX_EVENTS }
+    requires left { IsRefuted values.now left }
+    ensures { IfOk result (λ o. IfSome o (λ p. IsPart values.now p)) }
+{
+    let mut left = left;
+    for _ in 0..table.len() + 1 {
+        match try_each(alloc, values, table, &left, limit)? {
+            Tried::Allowed => {
+                let Left { events, values, .. } = left;
+                return Ok(Some(Part { events, values }));
+            }
+            Tried::Less(less) => left = less,
+            Tried::Unknown => return Ok(None),
+        }
+    }
+    Ok(None)
+}
+
+/// A part of values that TSO does not allow, of which each event is needed: some events, fed among themselves, whose
+/// values TSO does not allow, though it does allow them without any one event and without the reads that it alone could
+/// feed. None where TSO allows the values, and where a search would look at more than `limit` situations. Fails only if
+/// out of memory.
+pub fn part_of(alloc: Global, values: &Values, limit: u32) -> Result<Option<Part>, OutOfMemory>
+    ensures { IfOk result (λ o. IfSome o (λ p. IsPart values.now p)) }
+{
+    let table = table(alloc, values)?;
+    if table.len() > MAX_EVENTS {
+        return Ok(None);
+    }
+    let row = all_events(alloc, table.len())?;
+    let Tried::Less(whole) = try_row(alloc, values, &table, row, limit)? else {
+        return Ok(None);
+    };
+    let left = cut(alloc, values, &table, whole, limit.min(RUN_LIMIT))?;
+    minimal(alloc, values, &table, left, limit)
+}
