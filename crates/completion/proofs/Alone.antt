@@ -17,14 +17,14 @@ use Rattle.completion.proofs.Covers.{unsourced_same}
 use Rattle.completion.proofs.Hopeful.{same_address, same_value}
 
 -- a source makes no write, and no load
-same_write : (ev : Event) → written_address (unsourced ev) ≡ written_address ev
+pub same_write : (ev : Event) → written_address (unsourced ev) ≡ written_address ev
 same_write (L a r o) = refl
 same_write (S a w) = refl
 same_write (R a r o w) = refl
 same_write (C a r o) = refl
 same_write F = refl
 
-same_written : (ev : Event) → value_written (unsourced ev) ≡ value_written ev
+pub same_written : (ev : Event) → value_written (unsourced ev) ≡ value_written ev
 same_written (L a r o) = refl
 same_written (S a w) = refl
 same_written (R a r o w) = refl

@@ -43,7 +43,7 @@ fn may_be_write(source: Option<Option<EventId>>, w: usize) -> bool
 }
 
 /// Whether the initial value may feed an event.
-fn is_fed_initially(values: &Values, table: &[Placed], e: usize) -> bool
+pub(crate) fn is_fed_initially(values: &Values, table: &[Placed], e: usize) -> bool
     requires table { IsTable values.now table.now }
     requires there { e < length table.now }
     ensures holds { IsTrue result → MayFeed values.now e None }
@@ -58,7 +58,7 @@ fn is_fed_initially(values: &Values, table: &[Placed], e: usize) -> bool
 }
 
 /// Whether a write may feed an event.
-fn is_fed_by(values: &Values, table: &[Placed], e: usize, w: usize) -> bool
+pub(crate) fn is_fed_by(values: &Values, table: &[Placed], e: usize, w: usize) -> bool
     requires table { IsTable values.now table.now }
     requires there { e < length table.now }
     requires write { w < length table.now }

@@ -1,0 +1,78 @@
+-- Values that leave no choice.
+use Rattle.std.proofs.Common.{◌≡◌, ◌<◌, ◌≤◌, ◌+◌, inl, inr, ℕ, Option, Some, None, List, length, arith, sym, ap, subst, ◌∙◌}
+use Rattle.std.proofs.lemmas.Bool.{cases_lt}
+use Rattle.recording.specs.EventLaws.{Reads-event}
+use Rattle.values.specs.Values.{Values}
+use Rattle.values.specs.Refused.{events_alone}
+use Rattle.completion.specs.declared.table.Placed.{Placed}
+use Rattle.completion.specs.Only.{MayGiveValue}
+use Rattle.completion.specs.Pairs.{IsTable}
+use Rattle.completion.specs.Part.{IsAmong, MayFeed}
+use Rattle.completion.proofs.Alone.{table_size, write_inside}
+
+-- what feeds an event is among all
+pub all_among : (v : Values) (items : List Placed) (e n : ℕ) → IsTable v items → length items ≤ n → (s : Option ℕ)
+    → MayFeed v e s → IsAmong (λ w. w < n) s
+all_among v items e n h most None may = tt
+all_among v items e n h most (Some w) may =
+    omega (arith, most, write_inside v items w may.address h may.gives.0)
+
+-- what feeds an event and is not n is among those below n
+among_before : (v : Values) (e n : ℕ) → ¬ MayFeed v e (Some n) → (s : Option ℕ) → MayFeed v e s
+    → IsAmong (λ w. w < n + 1) s → IsAmong (λ w. w < n) s
+among_before v e n unfed None may h = tt
+among_before v e n unfed (Some w) may h = elim (cases_lt w n) [
+  | inl before ↦ before
+  | inr last ↦
+      let at : w ≡ n = omega (arith, h, last) in
+      absurd (unfed (subst (λ (k : ℕ). MayFeed v e (Some k)) at may))
+]
+
+-- where nothing below n feeds an event, what does below n + 1 is n
+is_last : (v : Values) (e n : ℕ) → ((s : Option ℕ) → IsAmong (λ w. w < n) s → ¬ MayFeed v e s) → (s : Option ℕ)
+    → MayFeed v e s → IsAmong (λ w. w < n + 1) s → s ≡ Some n
+is_last v e n none None may h = absurd (none None tt may)
+is_last v e n none (Some w) may h = elim (cases_lt w n) [
+  | inl before ↦ absurd (none (Some w) before may)
+  | inr last ↦ ap (λ (k : ℕ). Some k) (omega (arith, h, last))
+]
+
+-- one more that does not feed the event
+pub none_more : (v : Values) (e n : ℕ) → ((s : Option ℕ) → IsAmong (λ w. w < n) s → ¬ MayFeed v e s)
+    → ¬ MayFeed v e (Some n) → (s : Option ℕ) → IsAmong (λ w. w < n + 1) s → ¬ MayFeed v e s
+none_more v e n none unfed s h may = none s (among_before v e n unfed s may h) may
+
+pub one_more : (v : Values) (e n : ℕ)
+    → ((s t : Option ℕ) → IsAmong (λ w. w < n) s → IsAmong (λ w. w < n) t → MayFeed v e s → MayFeed v e t → s ≡ t)
+    → ¬ MayFeed v e (Some n) → (s t : Option ℕ) → IsAmong (λ w. w < n + 1) s → IsAmong (λ w. w < n + 1) t
+    → MayFeed v e s → MayFeed v e t → s ≡ t
+one_more v e n one unfed s t hs ht ms mt =
+    one s t (among_before v e n unfed s ms hs) (among_before v e n unfed t mt ht) ms mt
+
+-- the first that does
+pub one_first : (v : Values) (e n : ℕ) → ((s : Option ℕ) → IsAmong (λ w. w < n) s → ¬ MayFeed v e s)
+    → (s t : Option ℕ) → IsAmong (λ w. w < n + 1) s → IsAmong (λ w. w < n + 1) t → MayFeed v e s → MayFeed v e t
+    → s ≡ t
+one_first v e n none s t hs ht ms mt = is_last v e n none s ms hs ∙ sym (is_last v e n none t mt ht)
+
+-- what gives an event its value feeds it, where it does not do so itself
+feeds : (v : Values) (e : ℕ) → ¬ MayGiveValue v e (Some e) → (s : Option ℕ) → MayGiveValue v e s → MayFeed v e s
+feeds v e own s gives = record {
+  address = gives.address;
+  reads = gives.reads;
+  gives = gives.gives;
+  other = λ same. own (subst (λ (o : Option ℕ). MayGiveValue v e o) same gives);
+  known = gives.known;
+}
+
+-- so it is one thing
+pub gives_once : (v : Values) (e : ℕ) → ¬ MayGiveValue v e (Some e)
+    → ((s t : Option ℕ) → MayFeed v e s → MayFeed v e t → s ≡ t)
+    → (s t : Option ℕ) → MayGiveValue v e s → MayGiveValue v e t → s ≡ t
+gives_once v e own once s t gs gt = once s t (feeds v e own s gs) (feeds v e own t gt)
+
+-- what reads stands in the table
+pub read_inside : (v : Values) (items : List Placed) (e : ℕ) (s : Option ℕ) → IsTable v items → MayGiveValue v e s
+    → e < length items
+read_inside v items e s h gives =
+    omega (arith, Reads-event (events_alone v) e gives.address gives.reads, table_size v items h)
