@@ -9,6 +9,7 @@ use Rattle.verdicts.specs.declared.printed.Answer.{Answer}
 use Rattle.verdicts.specs.declared.outcome.Outcome.TheVariants.{Ordered, Unfinished, Violation}
 use Rattle.answers.specs.Circles.{circle_text}
 use Rattle.answers.specs.Outcomes.{IsText}
+use Rattle.answers.specs.Part.{ShowsPart}
 
 -- a recording that completes the values, and which TSO allows
 pub record IsCompleted (v : Values) (answer : Answer) : Type 0 where
@@ -17,12 +18,18 @@ pub record IsCompleted (v : Values) (answer : Answer) : Type 0 where
   pub completes : IsCompletion v recording order
   pub said : IsText Ordered (recording_text recording) answer
 
--- TSO does not allow the values; where there are lines of a circle, it is one
+-- a part of the values may be shown
+abbrev pub MayShowPart : Values → List ℕ → Type 0
+MayShowPart v shown = (shown ≡ []) ⊎ ShowsPart v shown
+
+-- TSO does not allow the values; a circle may be shown, and a part of them
 pub record IsImpossible (v : Values) (answer : Answer) : Type 0 where
   pub refuted : ¬ AreAllowed v
   pub circle : List Link
   pub shows : (circle ≡ []) ⊎ IsCircle v circle
-  pub said : IsText Violation (codes "impossible" ++ 10 ∷ circle_text circle) answer
+  pub shown : List ℕ
+  pub part : MayShowPart v shown
+  pub said : IsText Violation ((codes "impossible" ++ 10 ∷ circle_text circle) ++ shown) answer
 
 -- a recording that completes the values, or that there is none, or `unfinished`, of which nothing is said
 abbrev pub IsCompletionAnswer : Values → Answer → Type 0

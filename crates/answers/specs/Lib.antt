@@ -5,5 +5,6 @@ pub mod Campaign
 pub mod Survey
 pub mod Outcomes
 pub mod Circles
+pub mod Part
 pub mod Completion
 pub mod Histogram

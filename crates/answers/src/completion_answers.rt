@@ -1,27 +1,53 @@
 //! What is answered of the values of a run.
 
-ghost use Rattle.std.specs.Prelude.{◌++◌, ◌∷◌, IfOk, codes};
-ghost use Rattle.answers.specs.Circles.{circle_text};
-ghost use Rattle.answers.specs.Completion.{IsCompletionAnswer};
-ghost use Rattle.answers.specs.Outcomes.{IsText};
+ghost use Rattle.std.specs.Prelude.{◌≡◌, ◌⊎◌, ◌++◌, [], IfOk, List, OnOk, ℕ};
+ghost use Rattle.values.specs.Values.{AreAllowed};
+ghost use Rattle.completion.specs.Circle.{IsCircle};
+ghost use Rattle.answers.specs.Completion.{IsCompletionAnswer, IsImpossible, MayShowPart};
 
 use crate::circles::put_circle;
 use crate::outcome_answers::unfinished_answer;
+use crate::parts::put_part;
 use common::OutOfMemory;
-use completion::{Answer as Completion, Link, complete};
+use completion::{Answer as Completion, Link, complete, only_recording, part_of};
 use recorder::write_recording;
 use report::{Answer, Outcome};
 use std::alloc::Global;
 use texts::put_text;
 use values::Values;
 
-/// The line `impossible`, and after it those of a circle.
-fn impossible_answer(alloc: Global, circle: &[Link]) -> Result<Answer, OutOfMemory>
-    ensures { IfOk result (IsText Outcome.Violation (codes "impossible" ++ 10 ∷ circle_text circle.now)) }
+/// Adds a part of values of which each event is needed, if one is found, with its recording, if it has one alone.
+fn put_needed(
+    out: &mut Vec<u8>,
+    alloc: Global,
+    values: &Values,
+    limit: u32,
+) -> Result<(), OutOfMemory>
+    ensures { OnOk result ((shown : List ℕ) × MayShowPart values.now shown
+        × (out.new.items ≡ out.old.items ++ shown)) }
+{
+    let Some(part) = part_of(alloc, values, limit)? else {
+        return Ok(());
+    };
+    let recording = only_recording(alloc, &part.values)?;
+    put_part(alloc, out, &part, &recording)
+}
+
+/// The line `impossible`, the lines of a circle, and a part of the values.
+fn impossible_answer(
+    alloc: Global,
+    values: &Values,
+    circle: &[Link],
+    limit: u32,
+) -> Result<Answer, OutOfMemory>
+    requires refuted { ¬ AreAllowed values.now }
+    requires circle { (circle.now ≡ []) ⊎ IsCircle values.now circle.now }
+    ensures { IfOk result (IsImpossible values.now) }
 {
     let mut text = Vec::new(alloc);
     put_text(&mut text, b"impossible\n")?;
     put_circle(&mut text, circle)?;
+    put_needed(&mut text, alloc, values, limit)?;
     Ok(Answer {
         outcome: Outcome::Violation,
         text,
@@ -29,8 +55,8 @@ fn impossible_answer(alloc: Global, circle: &[Link]) -> Result<Answer, OutOfMemo
 }
 
 /// The text of a recording that completes the values, and which TSO allows; `impossible` where there is none, with a
-/// circle of events where rules show it; or `unfinished` where more states than this would have to be looked at. Fails
-/// only if out of memory.
+/// circle of events where rules show it, and a part of which each event is needed; or `unfinished` where more states
+/// than this would have to be looked at. Fails only if out of memory.
 pub fn completion_answer(
     alloc: Global,
     values: &Values,
@@ -47,8 +73,10 @@ pub fn completion_answer(
                 text,
             })
         }
-        Completion::Impossible(None) => impossible_answer(alloc, &[]),
-        Completion::Impossible(Some(circle)) => impossible_answer(alloc, circle.as_slice()),
+        Completion::Impossible(None) => impossible_answer(alloc, values, &[], limit),
+        Completion::Impossible(Some(circle)) => {
+            impossible_answer(alloc, values, circle.as_slice(), limit)
+        }
         Completion::Unfinished => unfinished_answer(alloc),
     }
 }

@@ -6,6 +6,7 @@ mod circles;
 mod completion_answers;
 mod histogram_answers;
 mod outcome_answers;
+mod parts;
 mod reduced;
 mod rendering;
 mod runs;

@@ -56,7 +56,7 @@ fn try_row(
     };
     match complete(alloc, &left.values, limit)? {
         Answer::Completed(_recording, _order) => Ok(Tried::Allowed),
-        Answer::Impossible => Ok(Tried::Less(left)),
+        Answer::Impossible(_) => Ok(Tried::Less(left)),
         Answer::Unfinished => Ok(Tried::Unknown),
     }
 }

@@ -59,7 +59,7 @@ fn found_of(alloc: Global, values: &Values, states: usize) -> Result<Finding, Ou
     let limit = states.min(u32::MAX as usize) as u32;
     match complete(alloc, values, limit)? {
         Answer::Completed(..) => Ok(Finding::Ordered),
-        Answer::Impossible => Ok(Finding::Impossible),
+        Answer::Impossible(_) => Ok(Finding::Impossible),
         Answer::Unfinished => Ok(Finding::Unfinished),
     }
 }

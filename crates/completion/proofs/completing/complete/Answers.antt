@@ -10,7 +10,7 @@ returns-in-Some c =
     let v = c.args.values.now in
     let circle : IsCircle v c.in-Some.circle.items =
     subst (λ (o : Option (Vec Link Global)). IfSome o (λ (ls : Vec Link Global). IsCircle v ls.items)) c.in-Some.is
-    c.in_ok-circle.ensures in (circle, c.no_circle_is_allowed.ensures v c.in-Some.circle.items circle)
+    c.in_ok-circle.ensures in (c.no_circle_is_allowed.ensures v c.in-Some.circle.items circle, circle)
 
 pub searched-requires-clause-forced : goal.searched-requires-clause-forced
 searched-requires-clause-forced c = subst (λ (l : List (List Bool)). AreForced c.args.values.now l)
