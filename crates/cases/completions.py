@@ -1,5 +1,6 @@
 #!/usr/bin/env python3
-"""Whether a program completes this many random values, and only those that TSO allows, as trying all orders of their events shows.
+"""Whether a program completes this many random values, and only those that TSO allows, as trying all orders of their events shows;
+of the others it shows a part that TSO does not allow, and does allow without any one event.
 
 Usage: crates/cases/completions.py PROGRAM N [SEED]
 """
@@ -202,12 +203,86 @@ def is_shown(values, text):
     return lines[0] == "impossible" and bool(circle) == rules.has_circle() and rules.is_circle(circle)
 
 
+def sources_of(values, events, e):
+    """What may have given a read its value, as far as its source is not known; none is the initial value."""
+    event = events[e][1]
+    if event["k"] not in READS:
+        return []
+    fits = [w for w, (_, it) in enumerate(events) if w != e and it["k"] in WRITES and it["a"] == event["a"] and it["w"] == event["r"]]
+    fits += [None] if values["init"][event["a"]] == event["r"] else []
+    return [s for s in fits if "s" not in event or s == event["s"]]
+
+
+def fed_among(values, events, kept):
+    """The most of these events among which each read has something that may have fed it, if anything may."""
+    may = {e: sources_of(values, events, e) for e in kept}
+    left = [e for e in kept if not may[e] or any(s is None or s in kept for s in may[e])]
+    return left if left == kept else fed_among(values, events, left)
+
+
+def restricted(values, events, kept):
+    """The values with these events alone, numbered anew; a final value stays known if one of them writes it, or none of all does."""
+    def numbered_anew(event):
+        return {**event, "s": kept.index(event["s"])} if event.get("s") is not None else event
+
+    def stays(address, n):
+        writes = [e for e, (_, it) in enumerate(events) if it["k"] in WRITES and it["a"] == address and it["w"] == n]
+        return not writes or any(e in kept for e in writes)
+
+    cores = [[numbered_anew(events[e][1]) for e in kept if events[e][0] == core] for core in range(len(values["cores"]))]
+    final = [n if n is not None and stays(address, n) else None for address, n in enumerate(values.get("final", []))]
+    return {"cores": cores, "init": values["init"], "version": 3, **({"final": final} if any(n is not None for n in final) else {})}
+
+
+def is_part(values, kept, part):
+    """Whether some events with their values are a part that TSO does not allow, and of which each is needed."""
+    events = numbered(values)
+    without = lambda e: restricted(values, events, fed_among(values, events, [it for it in kept if it != e]))
+    return (kept == sorted({*kept} & {*range(len(events))}) and kept == fed_among(values, events, kept)
+            and part == restricted(values, events, kept) and not is_allowed(part) and all(is_allowed(without(e)) for e in kept))
+
+
+def only_recording(values):
+    """The recording of values of which each read has one source at most and writes another value, and each address has one write at most."""
+    events, addresses = numbered(values), range(len(values["init"]))
+    may = {e: [w for w in [*range(len(events)), None] if gives(values, events, e, w)] for e, (_, it) in enumerate(events) if it["k"] in READS}
+    writes = [[w for w, (_, it) in enumerate(events) if it["k"] in WRITES and it["a"] == address] for address in addresses]
+    ends = [events[its[0]][1]["w"] if its else first for its, first in zip(writes, values["init"])]
+    if any(len(its) != 1 or events[e][1].get("w") == events[e][1]["r"] for e, its in may.items()) or any(len(its) > 1 for its in writes):
+        return None
+    if any(want not in (None, got) for want, got in zip(values.get("final", ends), ends)):
+        return None
+    number = iter(range(len(events)))
+    sourced = lambda e, event: {**event, "s": may[e][0]} if e in may else event
+    cores = [[sourced(next(number), event) for event in core] for core in values["cores"]]
+    is_first = all(value == 0 for value in values["init"]) and all(event["k"] != "C" for _, event in events)
+    return {"cores": cores, "writes": writes, **({"version": 1} if is_first else {"init": values["init"], "version": 2})}
+
+
+def gives(values, events, e, w):
+    """Whether a read may have this source in some recording; none is the initial value."""
+    event = events[e][1]
+    fits = w is None or (events[w][1]["k"] in WRITES and events[w][1]["a"] == event["a"])
+    return fits and value_by(values, events, e, w) == event["r"] and event.get("s", w) == w
+
+
+def shows_part(values, text):
+    """Whether a text ends with an empty line, the line of a part's events, the line of its values, and the only recording of these."""
+    lines = text.splitlines()
+    begin = max(i for i, line in enumerate(lines) if line.startswith("events:"))
+    (word, *kept), part = lines[begin].split(" "), json.loads(lines[begin + 1])
+    recording = only_recording(part)
+    shown = [] if recording is None else ["", json.dumps(recording, separators=(",", ":"), sort_keys=True)]
+    return lines[begin - 1] == "" and word == "events:" and is_part(values, [int(e) for e in kept], part) and lines[begin + 2:] == shown
+
+
 def is_right(program, values):
-    """Whether the program completes values that TSO allows, and calls others impossible, with a circle where rules show one."""
+    """Whether the program completes values that TSO allows, and calls others impossible, with a circle where rules show one, and with a part of which each
+    event is needed."""
     status, text = ran(program, ["complete", "-"], text_of(values))
     if is_allowed(values):
         return status == 0 and completes(program, values, text)
-    return status == 2 and is_shown(values, text)
+    return status == 2 and is_shown(values, text) and shows_part(values, text)
 
 
 def any_event(dice, addresses):

@@ -1,4 +1,4 @@
-use Rattle.std.proofs.Common.{◌∙◌, inl, List, ap, subst}
+use Rattle.std.proofs.Common.{◌≡◌, ◌∙◌, inl, List, ap, subst}
 use Rattle.std.specs.Prelude.{IfSome}
 use Rattle.std.specs.List.{IsDistinct}
 use Rattle.std.specs.List.Sorted.{IsSorted}
