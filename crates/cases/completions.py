@@ -243,12 +243,12 @@ def is_part(values, kept, part):
 
 
 def only_recording(values):
-    """The recording of values of which each read has one source at most and writes another value, and each address has one write at most."""
+    """The recording of values of which each read has one source at most, not itself, and each address has one write at most."""
     events, addresses = numbered(values), range(len(values["init"]))
     may = {e: [w for w in [*range(len(events)), None] if gives(values, events, e, w)] for e, (_, it) in enumerate(events) if it["k"] in READS}
     writes = [[w for w, (_, it) in enumerate(events) if it["k"] in WRITES and it["a"] == address] for address in addresses]
     ends = [events[its[0]][1]["w"] if its else first for its, first in zip(writes, values["init"])]
-    if any(len(its) != 1 or events[e][1].get("w") == events[e][1]["r"] for e, its in may.items()) or any(len(its) > 1 for its in writes):
+    if any(len(its) != 1 or e in its for e, its in may.items()) or any(len(its) > 1 for its in writes):
         return None
     if any(want not in (None, got) for want, got in zip(values.get("final", ends), ends)):
         return None

@@ -7,12 +7,12 @@ ghost use Rattle.completion.specs.Only.{AreDetermined, MayGiveValue};
 ghost use Rattle.completion.specs.Pairs.{IsTable};
 ghost use Rattle.completion.specs.Part.{MayFeed};
 
-use crate::feeding::{is_fed_by, is_fed_initially};
+use crate::feeding::{is_fed_by, is_fed_initially, may_be_write, source_at};
 use crate::sources::writes_to;
 use crate::table::{Placed, event_at};
 use values::Values;
 
-/// Whether an event writes the value that it reads.
+/// Whether an event writes the value that it reads, so that it may be its own source.
 fn writes_back(values: &Values, table: &[Placed], e: usize) -> bool
     requires table { IsTable values.now table.now }
     requires there { e < length table.now }
@@ -21,7 +21,9 @@ fn writes_back(values: &Values, table: &[Placed], e: usize) -> bool
     let event = event_at(values, table, e);
     match event.read_address() {
         Some(address) => {
-            writes_to(values, table, e, address) && event.value_written() == event.value_read()
+            writes_to(values, table, e, address)
+                && event.value_written() == event.value_read()
+                && may_be_write(source_at(values, e), e)
         }
         None => false,
     }

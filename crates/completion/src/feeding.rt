@@ -32,7 +32,7 @@ fn may_be_initial(source: Option<Option<EventId>>) -> bool
 }
 
 /// Whether it may be a write.
-fn may_be_write(source: Option<Option<EventId>>, w: usize) -> bool
+pub(crate) fn may_be_write(source: Option<Option<EventId>>, w: usize) -> bool
     ensures { IsTrue result ↔ ((t : Option ℕ) → source ≡ Some t → t ≡ Some w) }
 {
     match source {

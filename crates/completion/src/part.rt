@@ -16,7 +16,13 @@ use std::alloc::Global;
 use values::Values;
 
 /// How many situations are looked at where a run of events is taken away.
-const RUN_LIMIT: u32 = 10_000;
+const RUN_LIMIT: u32 = 1_000;
+
+/// How many tries with all events taking runs away may cost. A try with fewer events costs less.
+const RUN_TRIES: usize = 32;
+
+/// How many events may be left where runs were taken away.
+const MOST_LEFT: usize = 64;
 
 /// Some events of values, and the values with these alone.
 #[derive(Drop)]
@@ -98,7 +104,7 @@ fn try_each(
     Ok(Tried::Allowed)
 }
 
-/// Takes runs of events away as long as TSO does not allow the rest.
+/// Takes runs of events away as long as TSO does not allow the rest, until the tries cost too much.
 fn cut(
     alloc: Global,
     values: &Values,
@@ -112,8 +118,13 @@ fn cut(
     ensures { IfOk result (λ l. IsRefuted values.now l) }
 {
     let mut left = left;
+    let mut budget = RUN_TRIES * table.len();
     for run in 1..2 * MAX_EVENTS {
+        if budget < left.events.len() {
+            return Ok(left);
+        }
         if let Some(row) = without_run(alloc, table.len(), &left.row, run)? {
+            budget = budget.saturating_sub(left.events.len());
             if let Tried::Less(less) = try_row(alloc, values, table, row, limit)? {
                 left = less;
             }
@@ -151,8 +162,8 @@ fn minimal(
 
 /// A part of values that TSO does not allow, of which each event is needed: some events, fed among themselves, whose
 /// values TSO does not allow, though it does allow them without any one event and without the reads that it alone could
-/// feed. None where TSO allows the values, and where a search would look at more than `limit` situations. Fails only if
-/// out of memory.
+/// feed. None where TSO allows the values, where a search would look at more than `limit` situations, and where it would
+/// take long: after some tries with all events, more than 64 are left. Fails only if out of memory.
 pub fn part_of(alloc: Global, values: &Values, limit: u32) -> Result<Option<Part>, OutOfMemory>
     ensures { IfOk result (λ o. IfSome o (λ p. IsPart values.now p)) }
 {
@@ -165,5 +176,8 @@ pub fn part_of(alloc: Global, values: &Values, limit: u32) -> Result<Option<Part
         return Ok(None);
     };
     let left = cut(alloc, values, &table, whole, limit.min(RUN_LIMIT))?;
+    if left.events.len() > MOST_LEFT {
+        return Ok(None);
+    }
     minimal(alloc, values, &table, left, limit)
 }
