@@ -376,7 +376,10 @@ with, or null where that is not known.
 
 Where TSO allows them, the recording is printed with sources and write lists by which it
 does, so that `judge` finds an order. Else `impossible` is printed: no sources and write
-lists make it lawful.
+lists make it lawful. Then come, where rules show it, the lines of a circle of events, each
+before the next with the reason; and after an empty line the numbers of some events and a
+line with these alone, of which each is needed: without it TSO would allow the rest. Where
+these have one recording only, it is the last line, which `judge` and `explain` take.
 
 The states of a machine with store buffers are looked at. If there are more than `--states`
 allows, `unfinished` is printed.",
