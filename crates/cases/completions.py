@@ -128,13 +128,15 @@ class Rules:
         return self.is_own(e, f) and not (self.events[e][1]["k"] == "S" and self.events[f][1]["k"] == "L")
 
     def source(self, e):
-        """All that a read may have as its source; none is the initial value."""
+        """All that a read may have as its source; none is the initial value. It is the first write that is too late, where no other has the value."""
         event = self.events[e][1]
         if "s" in event:
             return [event["s"]]
-        may = [w for w in self.numbers if self.writes(w, event["a"]) and self.events[w][1]["w"] == event["r"]
-               and w != e and not self.is_own(e, w)]
-        return may + [None] if not may or self.values["init"][event["a"]] == event["r"] else may
+        match = [w for w in self.numbers if self.writes(w, event["a"]) and self.events[w][1]["w"] == event["r"] and w != e]
+        may = [w for w in match if not self.is_own(e, w)]
+        if self.values["init"][event["a"]] == event["r"]:
+            return [*may, None]
+        return may or match[:1] or [None]
 
     def is_only(self, e, w):
         """Whether a read can have this source alone."""

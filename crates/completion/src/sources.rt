@@ -2,7 +2,7 @@
 
 ghost use Rattle.std.specs.Prelude.{◌≡◌, ◌<◌, ℕ, IfOk, IfSome, IsTrue, Some, false, length};
 ghost use Rattle.completion.specs.Pairs.{IsTable};
-ghost use Rattle.completion.specs.Sources.{found_of, IsFoundSource, MayGive};
+ghost use Rattle.completion.specs.Sources.{found_of, IsFoundSource, Matches, MayGive};
 ghost use Rattle.recording.specs.Execution.{Reads, Writes, ProgramOrder, event_at};
 ghost use Rattle.values.specs.Refused.{events_alone};
 
@@ -88,6 +88,51 @@ fn only_write(
     Ok(found)
 }
 
+/// Whether an event writes what a read has, but is later on its core.
+fn is_too_late(values: &Values, table: &[Placed], read: usize, address: Addr, write: usize) -> bool
+    requires table { IsTable values.now table.now }
+    requires read { read < length table.now }
+    requires write { write < length table.now }
+    ensures { IsTrue result → Matches values.now read address write }
+{
+    writes_to(values, table, write, address)
+        && event_at(values, table, write).value_written()
+            == event_at(values, table, read).value_read()
+        && write != read
+        && is_own(values, table, read, write)
+}
+
+/// The first event that writes what a read has, but is later on its core; none where there is none.
+fn late_write(values: &Values, table: &[Placed], read: usize, address: Addr) -> Option<usize>
+    requires table { IsTable values.now table.now }
+    requires read { read < length table.now }
+    ensures { IfSome result (Matches values.now read address) }
+{
+    for write in 0..table.len() {
+        if is_too_late(values, table, read, address, write) {
+            return Some(write);
+        }
+    }
+    None
+}
+
+/// The source of a read whose value no write may give: the initial value, or a write that is too late for it.
+fn source_without(values: &Values, table: &[Placed], read: usize, address: Addr) -> Source
+    requires table { IsTable values.now table.now }
+    requires read { read < length table.now }
+    requires address { Reads (events_alone values.now) read address }
+    requires none { (u : ℕ) → ¬ MayGive values.now read address u }
+    ensures { IsFoundSource values.now read address result }
+{
+    if event_at(values, table, read).value_read() == value_at(values.init(), address as usize) {
+        return Source::Initial;
+    }
+    match late_write(values, table, read, address) {
+        Some(write) => Source::Only(write),
+        None => Source::Initial,
+    }
+}
+
 /// The source of the read at a number, as far as its value tells.
 fn source_by_value(values: &Values, table: &[Placed], read: usize, address: Addr) -> Source
     requires table { IsTable values.now table.now }
@@ -99,7 +144,7 @@ fn source_by_value(values: &Values, table: &[Placed], read: usize, address: Addr
         return Source::Open;
     };
     match found {
-        None => Source::Initial,
+        None => source_without(values, table, read, address),
         Some(write) => {
             if event_at(values, table, read).value_read()
                 == value_at(values.init(), address as usize)
