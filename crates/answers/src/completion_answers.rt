@@ -30,7 +30,8 @@ fn put_needed(
         return Ok(());
     };
     let recording = only_recording(alloc, &part.values)?;
-    put_part(alloc, out, &part, &recording)
+    put_part(alloc, out, &part, &recording)?;
+    Ok(())
 }
 
 /// The line `impossible`, the lines of a circle, and a part of the values.

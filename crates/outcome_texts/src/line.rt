@@ -56,11 +56,7 @@ fn put_values(line: &mut Vec<u8>, program: &Program, memory: &[u32]) -> Result<(
 }
 
 /// The items of an outcome of a program, as they stand on its line. Fails only if out of memory.
-pub fn items_of(
-    alloc: Global,
-    program: &Program,
-    outcome: &Outcome,
-) -> Result<Vec<u8>, OutOfMemory>
+pub fn items_of(alloc: Global, program: &Program, outcome: &Outcome) -> Result<Vec<u8>, OutOfMemory>
     ensures { IfOk result (λ items. items.items ≡ items_text program.now outcome.now) }
 {
     let mut items = Vec::new(alloc);
