@@ -59,22 +59,19 @@ pub fn run_command<H: Host>(
     ensures reads { ReadsNamed (input_names (Options.Run options.now)) (H.log host.old) (H.log host.new) result }
 {
     let program = program_at(alloc, host, options.program.as_str())?;
-    if let Some(runs) = options.runs {
-        return Ok(seeded_histogram_answer(
-            alloc,
-            &program,
-            &SeededRuns {
+    match (options.runs, &options.steps) {
+        (Some(runs), _) => {
+            let runs = SeededRuns {
                 seed: options.seed,
                 runs,
                 attempts: options.attempts,
                 buffer: options.buffer,
                 fault: options.fault,
-            },
-        )?);
-    }
-    match &options.steps {
-        Some(name) => script_run(alloc, program, options, name.as_str(), host),
-        None => Ok(seeded_answer(
+            };
+            Ok(seeded_histogram_answer(alloc, &program, &runs)?)
+        }
+        (None, Some(name)) => script_run(alloc, program, options, name.as_str(), host),
+        (None, None) => Ok(seeded_answer(
             alloc,
             program,
             options.buffer,
