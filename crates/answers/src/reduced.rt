@@ -1,8 +1,11 @@
 //! Violations that are cut down to the events that they need, as answers.
 
-ghost use Rattle.std.specs.Prelude.{◌≡◌, ◌++◌, IfOk, IfSome, IfNone, OnOk, option_map};
+ghost use Rattle.std.specs.Prelude.{◌≡◌, ◌≤◌, ◌++◌, IfOk, IfSome, IfNone, OnOk, option_map};
 ghost use Rattle.std.specs.List.{flat_map};
+ghost use Rattle.common.specs.declared.limits.TheConstants.{MAX_EVENTS};
+ghost use Rattle.recording.specs.Execution.{event_count};
 ghost use Rattle.recording.specs.FirstUse.{IsNumberedByFirstUse};
+ghost use Rattle.recording.specs.Recording.{IsShortRecording};
 ghost use Rattle.machine.specs.ProgramOf.{IsProgramOf};
 ghost use Rattle.verdicts.specs.Judgement.{IsVerdict};
 ghost use Rattle.reduction.specs.Needed.{IsOrdered};
@@ -87,6 +90,7 @@ fn append_verdict(
     program: &Program,
     recording: &Recording,
 ) -> Result<Answer, OutOfMemory>
+    requires { event_count recording.now ≤ MAX_EVENTS }
     ensures { IfOk result
         (IsVerdictAnswer recording.now (text.items ++ shown_text program.now recording.now)) }
 {
@@ -108,6 +112,7 @@ fn program_left(
     reduced: &Reduced,
 ) -> Result<Program, OutOfMemory>
     requires closed { AreClosed recording.now reduced.now.events.items }
+    requires short { IsShortRecording reduced.now.recording }
     requires numbered { IsNumberedByFirstUse reduced.now.recording }
     requires program { IfSome program (λ p. IsProgramOf p.now recording.now) }
     ensures { IfOk result (λ p. p ≡ program_left (option_map (λ q. q.now) program.entry) recording.now
@@ -129,6 +134,7 @@ pub(crate) fn cut_answer(
     verdict: &Verdict,
     headed: Option<&Labels>,
 ) -> Result<Option<Answer>, OutOfMemory>
+    requires short { IsShortRecording recording.now }
     requires found { IsVerdict recording.now verdict.now }
     requires program { IfSome program (λ p. IsProgramOf p.now recording.now) }
     ensures some { IfOk result (λ r. IfSome r
@@ -157,7 +163,8 @@ pub fn reduced_answer(
     program: Option<&Program>,
     labels: &Labels,
 ) -> Result<Answer, OutOfMemory>
-    requires { IfSome program (λ p. IsProgramOf p.now recording.now) }
+    requires short { IsShortRecording recording.now }
+    requires program { IfSome program (λ p. IsProgramOf p.now recording.now) }
     ensures { IfOk result (IsReducedAnswer recording.now (option_map (λ p. p.now) program.entry) labels.now) }
 {
     let verdict = judge_alone(alloc, recording)?;

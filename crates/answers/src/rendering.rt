@@ -1,6 +1,7 @@
 //! Renderings of a recording: its verdict in words or as a picture, or what is left of it.
 
 ghost use Rattle.std.specs.Prelude.{◌≡◌, IfOk, IfSome, option_map};
+ghost use Rattle.recording.specs.Recording.{IsShortRecording};
 ghost use Rattle.verdicts.specs.Judgement.{IsVerdict};
 ghost use Rattle.verdicts.specs.Verified.{Verifies};
 ghost use Rattle.answers.specs.Rendered.{IsPicture, IsRenderedAnswer, IsWholeDrawing, addresses_of, names_of};
@@ -60,6 +61,7 @@ fn picture_text(
     names: &Names,
     verdict: &Verdict,
 ) -> Result<Vec<u8>, OutOfMemory>
+    requires short { IsShortRecording recording.now }
     requires found { IsVerdict recording.now verdict.now }
     requires verified { Verifies recording.now verdict.now }
     ensures { IfOk result (λ text. IsPicture all recording.now names.now verdict.now text.items) }
@@ -87,6 +89,7 @@ fn addresses_of(
     recording: &Recording,
     program: Option<&Program>,
 ) -> Result<IndexSet<Name>, OutOfMemory>
+    requires { IsShortRecording recording.now }
     ensures { IfOk result (λ names.
         names.keys ≡ addresses_of (option_map (λ p. p.now) program.entry) recording.now) }
 {
@@ -104,6 +107,7 @@ fn names_of(
     program: Option<&Program>,
     labels: Labels,
 ) -> Result<Names, OutOfMemory>
+    requires { IsShortRecording recording.now }
     ensures { IfOk result (λ names. names ≡ names_of (option_map (λ p. p.now) program.entry) recording.now labels) }
 {
     let addresses = addresses_of(alloc, recording, program)?;
@@ -119,7 +123,8 @@ pub fn rendered_answer(
     program: Option<&Program>,
     labels: Labels,
 ) -> Result<Answer, OutOfMemory>
-    requires { IfSome program (λ p. IsProgramOf p.now recording.now) }
+    requires short { IsShortRecording recording.now }
+    requires program { IfSome program (λ p. IsProgramOf p.now recording.now) }
     ensures { IfOk result
         (IsRenderedAnswer rendering recording.now (option_map (λ p. p.now) program.entry) labels) }
 {

@@ -4,6 +4,7 @@ ghost use Rattle.verdicts.specs.Judgement.{IsVerdict};
 ghost use Rattle.verdicts.specs.Verified.{Verifies};
 ghost use Rattle.recording.specs.Tso.{IsTsoOrder};
 ghost use Rattle.recording.specs.FirstUse.{IsNumberedByFirstUse};
+ghost use Rattle.recording.specs.Recording.{IsShortRecording};
 ghost use Rattle.inputs.specs.Inputs.{CanRead, ReadsNamed};
 ghost use Rattle.commands.specs.Replay.{IsReplayedInput, IsReplayOf, IsReplayStop, IsReplayText, parts_text};
 
@@ -43,6 +44,7 @@ fn replay_text(
     recording: &Recording,
     order: &[EventId],
 ) -> Result<Vec<u8>, OutOfMemory>
+    requires short { IsShortRecording recording.now }
     requires numbered { IsNumberedByFirstUse recording.now }
     requires order { IsTsoOrder recording.now order.now }
     ensures { IfOk result (λ text. IsReplayText recording.now order.now text.items) }
@@ -62,6 +64,7 @@ pub(crate) fn replay_of(
     recording: &Recording,
     verdict: &Verdict,
 ) -> Result<Answer, OutOfMemory>
+    requires short { IsShortRecording recording.now }
     requires numbered { IsNumberedByFirstUse recording.now }
     requires found { IsVerdict recording.now verdict.now }
     requires verified { Verifies recording.now verdict.now }

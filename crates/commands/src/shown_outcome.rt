@@ -1,6 +1,7 @@
 //! How an outcome of a program comes about.
 ghost use Rattle.std.specs.Prelude.{ℕ, List, IfOk};
 ghost use Rattle.recording.specs.FirstUse.{IsNumberedByFirstUse};
+ghost use Rattle.recording.specs.Recording.{IsShortRecording};
 ghost use Rattle.recording.specs.Tso.{IsTsoOrder};
 ghost use Rattle.commands.specs.Outcomes.{IsReplayedRecording, IsShowAnswer};
 
@@ -17,6 +18,7 @@ use std::alloc::Global;
 
 /// The replay of a recording that has a TSO order, and the recording, with an empty line between.
 fn replayed_recording(alloc: Global, recording: &Recording) -> Result<Answer, OutOfMemory>
+    requires short { IsShortRecording recording.now }
     requires numbered { IsNumberedByFirstUse recording.now }
     requires allowed { (m : List ℕ) × IsTsoOrder recording.now m }
     ensures { IfOk result (IsReplayedRecording recording.now) }
@@ -39,8 +41,12 @@ pub(crate) fn show_answer(
 ) -> Result<Answer, OutOfMemory>
     ensures { IfOk result (IsShowAnswer program.now states seen.now) }
 {
+    program.sound();
     match first_recording(alloc, program, seen, states)? {
-        Witness::Found(recording) => replayed_recording(alloc, &recording),
+        Witness::Found(recording) => {
+            recording.sound();
+            replayed_recording(alloc, &recording)
+        }
         Witness::Forbidden => met_answer(alloc, false),
         Witness::Unfinished => unfinished_answer(alloc),
     }

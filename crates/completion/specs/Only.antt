@@ -2,7 +2,7 @@
 use Rattle.std.specs.Prelude.{◌≡◌, ℕ, Option, Some, map}
 use Rattle.recording.specs.Event.{value_read}
 use Rattle.recording.specs.Execution.{Execution, event_at, source_of, Reads, Writes}
-use Rattle.recording.specs.Recording.{IsRecording}
+use Rattle.recording.specs.Recording.{IsShortRecording}
 use Rattle.recording.specs.Tso.{Gives}
 use Rattle.values.specs.Final.{final_value}
 use Rattle.values.specs.Values.{Values, known_final, known_source, unsourced}
@@ -14,7 +14,7 @@ pub record HasValues (v : Values) (x : Execution) : Type 0 where
   pub initial : x.initial ≡ v.initial
   pub sources : (e : ℕ) (s : Option ℕ) → known_source v e ≡ Some s → source_of x e ≡ s
   pub final_values : (a n : ℕ) → known_final v a ≡ Some n → final_value x a ≡ n
-  pub recording : IsRecording x
+  pub recording : IsShortRecording x
 
 -- a recording of these values, and the only one
 pub record IsOnlyRecording (v : Values) (x : Execution) : Type 0 where

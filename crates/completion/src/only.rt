@@ -12,7 +12,7 @@ use crate::known::{keeps_finals, keeps_sources};
 use crate::sourced::sourced;
 use crate::table::{Placed, event_at, table};
 use common::{EventId, MAX_EVENTS, OutOfMemory};
-use recording::Recording;
+use recording::{Recording, RecordingSize};
 use std::alloc::Global;
 use values::Values;
 
@@ -95,7 +95,8 @@ fn recorded(
 {
     let cores = sourced(alloc, values, choices.sources.as_slice())?;
     let init = Vec::from_slice(alloc, values.init())?;
-    let Ok(recording) = Recording::from_parts(cores, choices.writes, init) else {
+    let size = RecordingSize::Short;
+    let Ok(recording) = Recording::from_parts(alloc, size, cores, choices.writes, init)? else {
         return Ok(None);
     };
     if !keeps_sources(values, &recording) || !keeps_finals(values, &recording) {

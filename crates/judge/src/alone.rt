@@ -1,6 +1,8 @@
 //! The judge on the calling thread.
 
-ghost use Rattle.std.specs.Prelude.{ℕ, List, IfErr, IfOk};
+ghost use Rattle.std.specs.Prelude.{◌≤◌, ℕ, List, IfErr, IfOk};
+ghost use Rattle.common.specs.declared.limits.TheConstants.{MAX_EVENTS};
+ghost use Rattle.recording.specs.Execution.{event_count};
 ghost use Rattle.std.specs.Arc.{arc_value};
 ghost use Rattle.relations.specs.Cycle.{IsCycle};
 ghost use Rattle.relations.specs.Relation.{Related};
@@ -24,6 +26,7 @@ pub(crate) fn verdict_or_cyclic(
     alloc: Global,
     recording: &Recording,
 ) -> Result<Result<Verdict, Relation>, OutOfMemory>
+    requires { event_count recording.now ≤ MAX_EVENTS }
     ensures verdict { IfOk result (λ found. IfOk found (IsVerdict recording.now)) }
     ensures verified { IfOk result (λ found. IfOk found (Verifies recording.now)) }
     ensures cyclic { IfOk result (λ found. IfErr found (IsCyclicTable recording.now)) }
@@ -52,11 +55,12 @@ fn least_certificate(alloc: Global, relation: &Arc<Relation>) -> Result<Certific
     }
 }
 
-/// The verdict on a recording: its least overlook if there is one, else the first in dictionary
+/// The verdict on a recording of at most `MAX_EVENTS` events: its least overlook if there is one, else the first in dictionary
 /// order of its shortest cycles of forced pairs if there is one, else its first memory order of TSO
 /// in dictionary order (Nagarajan, Sorin, Hill and Wood, A Primer on Memory Consistency and Cache
 /// Coherence, second edition, chapter 4). It does not block. Fails only if out of memory.
 pub fn judge_alone(alloc: Global, recording: &Recording) -> Result<Verdict, OutOfMemory>
+    requires { event_count recording.now ≤ MAX_EVENTS }
     ensures verdict { IfOk result (IsVerdict recording.now) }
     ensures verified { IfOk result (Verifies recording.now) }
 {

@@ -1,6 +1,8 @@
 //! The check of verdicts.
 
-ghost use Rattle.std.specs.Prelude.{◌↔◌, IfOk, IsTrue};
+ghost use Rattle.std.specs.Prelude.{◌≤◌, ◌↔◌, IfOk, IsTrue};
+ghost use Rattle.common.specs.declared.limits.TheConstants.{MAX_EVENTS};
+ghost use Rattle.recording.specs.Execution.{event_count};
 ghost use Rattle.verdicts.specs.Verified.{Verifies, Means};
 
 use common::OutOfMemory;
@@ -9,10 +11,11 @@ use relations::{Relation, forced_is_exact, is_overlook, ordered_is_acyclic, rela
 use std::alloc::Global;
 use verdicts::Verdict;
 
-/// Whether a verdict, whoever gave it, holds of a recording: an order is a memory order of TSO, an
+/// Whether a verdict, whoever gave it, holds of a recording of at most `MAX_EVENTS` events: an order is a memory order of TSO, an
 /// overlook is one, a cycle has a certificate. It doesn't ask how the judge would have found it.
 /// Fails only if out of memory.
 pub fn verify(alloc: Global, recording: &Recording, verdict: &Verdict) -> Result<bool, OutOfMemory>
+    requires { event_count recording.now ≤ MAX_EVENTS }
     ensures exact { IfOk result (λ yes. IsTrue yes ↔ Verifies recording.now verdict.now) }
     ensures means { IfOk result (λ yes. IsTrue yes → Means recording.now verdict.now) }
 {

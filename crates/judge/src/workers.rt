@@ -2,6 +2,8 @@
 
 ghost use Rattle.std.specs.Prelude.{◌≤◌, ℕ, List, IfOk};
 ghost use Rattle.std.specs.Arc.{arc_value};
+ghost use Rattle.common.specs.declared.limits.TheConstants.{MAX_EVENTS};
+ghost use Rattle.recording.specs.Execution.{event_count};
 ghost use Rattle.relations.specs.Cycle.{IsCycle};
 ghost use Rattle.relations.specs.Relation.{Related};
 ghost use Rattle.verdicts.specs.Judgement.{IsVerdict};
@@ -48,6 +50,7 @@ pub fn judge_gated<R: Threads + Wait + Sync, G: Gate>(
     gate: &G,
 ) -> Result<Verdict, OutOfMemory>
     requires workers { (1 ≤ workers) × (workers ≤ MAX_WORKERS) }
+    requires few { event_count recording.now ≤ MAX_EVENTS }
     ensures verdict { IfOk result (IsVerdict recording.now) }
     ensures verified { IfOk result (Verifies recording.now) }
 {
@@ -73,6 +76,7 @@ pub fn judge<R: Threads + Wait + Sync>(
     workers: usize,
 ) -> Result<Verdict, OutOfMemory>
     requires workers { (1 ≤ workers) × (workers ≤ MAX_WORKERS) }
+    requires few { event_count recording.now ≤ MAX_EVENTS }
     ensures verdict { IfOk result (IsVerdict recording.now) }
     ensures verified { IfOk result (Verifies recording.now) }
 {

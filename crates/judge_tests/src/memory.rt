@@ -6,6 +6,7 @@ ghost use Rattle.std.specs.Prelude.{◌≤◌};
 ghost use Rattle.common.specs.declared.limits.TheConstants.{MAX_WORKERS};
 
 use crate::recordings::{OVERLOOKED_STORE, STORE_BUFFERING, THREE_AND_FOUR};
+use common::MAX_EVENTS;
 use judge::judge;
 use recorder::read_recording;
 use recording::{RecError, Recording};
@@ -25,6 +26,9 @@ fn is_usual<R: Threads + Wait + Sync>(
 ) -> Option<bool>
     requires { (1 ≤ workers) × (workers ≤ MAX_WORKERS) }
 {
+    if recording.len() > MAX_EVENTS {
+        return Some(false);
+    }
     let Ok(verdict) = judge(rt, alloc, recording, workers) else {
         return None;
     };

@@ -1,5 +1,6 @@
 //! Recordings by the names that the field gives them.
 
+use common::MAX_EVENTS;
 use recorder::read_recording;
 use recording::Recording;
 use relations::Relation;
@@ -53,5 +54,8 @@ pub fn related(alloc: Global, text: &str) -> Option<Relation> {
     let Some(recording) = recorded(alloc, text) else {
         return None;
     };
+    if recording.len() > MAX_EVENTS {
+        return None;
+    }
     Relation::of(alloc, &recording).ok()
 }

@@ -5,7 +5,7 @@ use crate::recordings::{
     STORE_BUFFERING_FENCED, TWIN_SWAPS, TWO_CYCLES, recorded, related,
 };
 use bitrow::BitRow;
-use common::{EventId, OutOfMemory};
+use common::{EventId, MAX_EVENTS, OutOfMemory};
 use judge::{Verdict, judge_alone, verify};
 use labels::{Certificate, check_par};
 use recording::Recording;
@@ -158,6 +158,9 @@ fn names(verdict: &Verdict, events: &[EventId]) -> bool {
 
 /// Whether the verdict on a recording names these events, and passes its check.
 fn is_right(alloc: Global, recording: &Recording, events: &[EventId]) -> bool {
+    if recording.len() > MAX_EVENTS {
+        return false;
+    }
     let Ok(verdict) = judge_alone(alloc, recording) else {
         return false;
     };

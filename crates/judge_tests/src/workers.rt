@@ -10,7 +10,7 @@ use crate::recordings::{THREE_AND_FOUR, recorded, related};
 use best::{Best, BestSeat};
 use common::{EventId, Gate, MAX_EVENTS, OpenGate};
 use judge::{Verdict, judge_gated};
-use recording::{Event, Recording};
+use recording::{Event, Recording, RecordingSize};
 use relations::Relation;
 use report::{MemorySink, MemorySource, Outcome, answer};
 use search::{SourceJob, least_length, run_jobs};
@@ -217,6 +217,9 @@ fn is_judged<R: Threads + Wait + Sync>(
 ) -> bool
     requires { (1 ≤ workers) × (workers ≤ MAX_WORKERS) }
 {
+    if recording.len() > MAX_EVENTS {
+        return false;
+    }
     match judge_gated(rt, alloc, recording, workers, watch) {
         Ok(Verdict::Cycle(certificate)) => certificate.cycle.as_slice() == events,
         _ => false,
@@ -273,7 +276,9 @@ fn reversed(alloc: Global, events: EventId) -> Option<Recording> {
     let cores = vec![in alloc; core].ok()?;
     let writes = vec![in alloc; list].ok()?;
     let init = vec![in alloc; 0].ok()?;
-    Recording::from_parts(cores, writes, init).ok()
+    Recording::from_parts(alloc, RecordingSize::Short, cores, writes, init)
+        .ok()?
+        .ok()
 }
 
 /// Whether each row of this many stores in reverse is made once, by this many of the workers.
@@ -356,6 +361,9 @@ fn lasts_inside<R: Threads + Wait + Sync>(
     alloc: Global,
 ) -> Option<bool> {
     let recording = reversed(alloc, MAX_EVENTS as EventId)?;
+    if recording.len() > MAX_EVENTS {
+        return None;
+    }
     let relation = Relation::of(alloc, &recording).ok()?;
     let (jobs, best, mut seat) = begun(alloc, relation)?;
     let gate = Lasting {

@@ -1,5 +1,6 @@
 -- Laws of what is found: the verdicts on a recording find the same, and no cycle that is too long.
-use Rattle.std.proofs.Common.{◌≡◌, ◌<◌, ℕ, Option, Some, arith, refl, ap, inl, inr, length, subst, ◌∙◌}
+use Rattle.common.specs.declared.limits.TheConstants.{MAX_EVENTS}
+use Rattle.std.proofs.Common.{◌≡◌, ◌<◌, ◌≤◌, ℕ, Option, Some, arith, refl, ap, inl, inr, length, subst, ◌∙◌}
 use Rattle.recording.specs.Event.{value_read}
 use Rattle.recording.specs.Execution.{Execution, event_count, event_at, write_list, Reads}
 use Rattle.recording.specs.Order.{times}
@@ -72,11 +73,12 @@ holds_within x wf Rf e f h =
 holds_within x wf Fr e f h = (Reads-event x e h.0 h.1, Writes-event x f h.0 h.2)
 
 -- so no least cycle is longer than a recording may be
-pub short_verdict : (x : Execution) (v : Verdict) → IsRecording x → IsVerdict x v → IsShortVerdict v
-short_verdict x (Ordered order) recording is = tt
-short_verdict x (Overlook load store) recording is = tt
-short_verdict x (Cycle certificate) recording is =
+pub short_verdict : (x : Execution) (v : Verdict) → IsRecording x → event_count x ≤ MAX_EVENTS → IsVerdict x v
+    → IsShortVerdict v
+short_verdict x (Ordered order) recording few is = tt
+short_verdict x (Overlook load store) recording few is = tt
+short_verdict x (Cycle certificate) recording few is =
     let least = is.least.shortest in
     let short = short_cycle (Forced x) (event_count x)
     (λ e f h. holds_within x recording.well_formed h.0 e f h.1) certificate.cycle.items least.cycle in
-    omega (arith, least.shortest short.0 short.1, short.2, recording.within.few_events)
+    omega (arith, least.shortest short.0 short.1, short.2, few)

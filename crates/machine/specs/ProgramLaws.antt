@@ -1,15 +1,16 @@
 -- Laws of programs and the recordings of them: each operation makes the event of its number.
 use Rattle.std.proofs.Common.{◌≡◌, ◌<◌, ◌+◌, ◌-◌, ◌==◌, inl, inr, ℕ, suc, false, Option, Some, List, []}
-use Rattle.std.proofs.Common.{◌∷◌, map, length, length-append, get_or, arith, refl, subst}
+use Rattle.std.proofs.Common.{◌∷◌, map, length, length-append, get_or, arith, refl, subst, ap}
 use Rattle.std.proofs.lemmas.Bool.{cases_lt, cond_both}
 use Rattle.program.specs.declared.op.Op.{Op}
 use Rattle.program.specs.declared.op.Op.TheVariants.{St, Fence, Cas}
-use Rattle.program.specs.Parts.{Parts}
+use Rattle.program.specs.Parts.{Parts, IsProgram}
 use Rattle.recording.specs.declared.event.Event.{Event}
 use Rattle.recording.specs.declared.event.Event.TheVariants.{R, C, F}
 use Rattle.recording.specs.Event.{read_address, value_read, source, is_plain_store, is_plain_load}
 use Rattle.recording.specs.Execution.{Execution, placed_from, event_count, event_at}
-use Rattle.recording.specs.PlacedLaws.{tagged, placed_here, placed_after}
+use Rattle.recording.specs.PlacedLaws.{tagged, placed_here, placed_after, placed_total}
+use Rattle.recording.specs.Recording.{IsRecording, IsShortRecording}
 use Rattle.machine.specs.State.{event_of}
 use Rattle.machine.specs.Orderly.{placed_op, is_st, is_ld, op_reads}
 use Rattle.machine.specs.ProgramOf.{Makes, AreOpsOf, IsProgramOf}
@@ -99,3 +100,22 @@ made_addresses p x is e =
     let op : Op = (placed_op p.cores e).1 in
     subst (λ (z : Event). HasAddressOf op z) (event_made p x is e)
     (has_address op (value_read (event_at x e), source (event_at x e)))
+
+-- a recording of a program is no larger than a program
+pub short_of_program : (p : Parts) (x : Execution) → IsProgram p → IsProgramOf p x → IsRecording x → IsShortRecording x
+short_of_program p x lawful of is = record {
+  well_formed = is.well_formed;
+  within = record {
+    few_cores = omega (arith, of.cores, lawful.few_cores);
+    few_events = omega (arith, events_made p x of, placed_total 0 p.cores, lawful.few_ops);
+    few_addresses = omega (
+      arith,
+      ap (λ (values : List ℕ). length values) of.values,
+      lawful.init_length,
+      lawful.few_names,
+      is.within.initial,
+    );
+    addresses = is.within.addresses;
+    initial = is.within.initial;
+  };
+}

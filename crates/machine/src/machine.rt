@@ -58,6 +58,7 @@ impl Model for Machine {
 impl Machine {
     ghost use Rattle.std.specs.Prelude.{◌≡◌, ◌<◌, ◌↔◌, [], IsTrue, IfOk, OnOk, OnErr, IfErr, IfSome, length};
     ghost use Rattle.std.specs.Prelude.{slice_get, slice_index_or, option_map};
+    ghost use Rattle.recording.specs.Recording.{IsShortRecording};
     ghost use Rattle.recording.specs.Tso.{IsTsoOrder};
     ghost use Rattle.moesi.specs.State.{line_of, memory_of};
     ghost use Rattle.machine.specs.declared.fault.Fault.TheVariants as fault;
@@ -222,10 +223,11 @@ impl Machine {
         true
     }
 
-    /// The recording of a machine that is complete, which is one of its program; else the machine as it
+    /// The recording of a machine that is complete, which is one of its program and no larger; else the machine as it
     /// is. It can't run out of memory.
     pub fn finish(self) -> Result<Recording, Unfinished>
         ensures recording { IfOk result (λ r. r ≡ recording_of self) }
+        ensures short { IfOk result IsShortRecording }
         ensures program { IfOk result (λ r. IsProgramOf self.program r) }
         ensures complete { OnOk result (IsAtEnd self) }
         // Without fault, the order of what was performed is one that TSO allows.

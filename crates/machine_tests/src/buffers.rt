@@ -1,12 +1,13 @@
 //! A short life of one buffer.
+use common::{Addr, EventId};
 use std::test::Fail;
 use write_buffer::{Entry, WriteBuffer};
 
-const X: u16 = 0;
+const X: Addr = 0;
 
-const Y: u16 = 1;
+const Y: Addr = 1;
 
-fn store(addr: u16, value: u32, event: u16) -> Entry {
+fn store(addr: Addr, value: u32, event: EventId) -> Entry {
     Entry { addr, value, event }
 }
 

@@ -2,7 +2,7 @@
 
 ghost use Rattle.std.specs.Prelude.{◌≡◌, ◌<◌, ◌+◌, ◌^◌, ℕ, [], IfOk, length, slice_index};
 ghost use Rattle.bitrow.specs.Bits.{is_in};
-ghost use Rattle.order.specs.Open.{one_if, IsOpen};
+ghost use Rattle.order.specs.Open.{one_if, relates_once, IsOpen};
 
 use bitrow::BitRow;
 use common::OutOfMemory;
@@ -25,7 +25,7 @@ fn add_set(counts: &mut [u16], set: &BitRow)
 
 /// How many events are open at or before each, before any is placed.
 pub(crate) fn count_all(alloc: Global, relation: &Relation) -> Result<Vec<u16>, OutOfMemory>
-    ensures { IfOk result (λ counts. IsOpen relation.now [] counts.items) }
+    ensures { IfOk result (λ counts. IsOpen (relates_once relation.now) (length relation.now) [] counts.items) }
 {
     relation.sound();
     let len = relation.len();

@@ -30,7 +30,7 @@ impl Waiting {
     ghost use Rattle.std.specs.Prelude.{◌≡◌, ◌≢◌, ◌≤◌, ◌<◌, ◌-◌, ◌^◌, ℕ, [], IfOk, MatchOption, length};
     ghost use Rattle.std.specs.Prelude.{slice_index, slice_set};
     ghost use Rattle.relations.specs.Relation.{relates};
-    ghost use Rattle.order.specs.Open.{one_if, IsOpen, IsFreeSet};
+    ghost use Rattle.order.specs.Open.{one_if, relates_once, IsOpen, IsFreeSet};
 
     /// The set of the events that wait for no other.
     fn free_set(alloc: Global, counts: &[u16]) -> Result<BitRow, OutOfMemory>
@@ -47,7 +47,7 @@ impl Waiting {
 
     /// All events of a relation, before any is placed.
     pub(crate) fn all(alloc: Global, relation: &Relation) -> Result<Waiting, OutOfMemory>
-        ensures { IfOk result (λ w. IsOpen relation.now [] w) }
+        ensures { IfOk result (λ w. IsOpen (relates_once relation.now) (length relation.now) [] w) }
     {
         let counts = count_all(alloc, relation)?;
         let free = Waiting::free_set(alloc, &counts)?;

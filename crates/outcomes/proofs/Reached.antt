@@ -10,7 +10,7 @@ use Rattle.program.specs.declared.op.Op.TheVariants.{Fence}
 use Rattle.program.specs.Parts.{Parts, IsProgram, IsWithin, op_count}
 use Rattle.program.proofs.Soundness.{cores_within}
 use Rattle.recording.specs.Event.{value_read}
-use Rattle.recording.specs.Recording.{IsRecording}
+use Rattle.recording.specs.Recording.{IsShortRecording}
 use Rattle.recording.specs.Tso.{IsTsoOrder}
 use Rattle.machine.specs.declared.fault.Fault.TheVariants as fault
 use Rattle.machine.specs.State.{State, place_of, first_event, recorded, opening, IsComplete, IsDone}
@@ -115,7 +115,7 @@ module _ (p : Parts) (lawful : IsProgram p) where
     data_there = subst (IsData p.cores) is_run.leads (run_data p.cores p.init capacity fault.None is_run.steps fits)
 
     -- it makes a recording of the program
-    pub well_recorded : IsRecording (recorded p.cores s)
+    pub well_recorded : IsShortRecording (recorded p.cores s)
     well_recorded = complete_recording p s lawful.few_cores lawful.few_ops
         (omega (arith, lists_there, lawful.init_length, lawful.few_names))
         (ap (λ (l : List ℕ). length l) initial_there ∙ sym lists_there) data_there complete_there

@@ -8,7 +8,7 @@ ghost use Rattle.program.specs.Parts.{use_addr, use_cores, use_ops};
 
 use crate::name::{Name, is_lawful, name_at};
 use crate::op::{Op, Ops};
-use common::{MAX_ADDRESSES, MAX_CORES, MAX_EVENTS};
+use common::{Addr, MAX_ADDRESSES, MAX_CORES, MAX_EVENTS};
 use indexmap::IndexSet;
 
 /// Whether the cores have fewer operations than `limit`.
@@ -55,7 +55,7 @@ fn use_op(used: usize, op: Op) -> Option<usize>
     use_addr(used, addr)
 }
 
-fn use_addr(used: usize, addr: u16) -> Option<usize>
+fn use_addr(used: usize, addr: Addr) -> Option<usize>
     ensures { result ≡ use_addr used (Some addr) }
 {
     let addr = addr as usize;

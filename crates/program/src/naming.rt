@@ -1,6 +1,6 @@
 //! The names of addresses that no text names.
 
-ghost use Rattle.std.specs.Prelude.{◌≡◌, ◌≤◌, IfOk};
+ghost use Rattle.std.specs.Prelude.{◌≡◌, ◌<◌, ◌≤◌, ◌^◌, IfOk};
 ghost use Rattle.program.specs.AddressNames.{address_name, address_names};
 
 use crate::name::Name;
@@ -9,8 +9,9 @@ use indexmap::IndexSet;
 use itoa::Buffer;
 use std::alloc::Global;
 
-/// The name of an address: the letter a, and its number.
+/// The name of an address: the letter a, and its number, which has at most seven digits.
 pub fn address_name(number: Addr) -> Name
+    requires { number < 10 ^ 7 }
     ensures { result ≡ address_name number }
 {
     let mut buffer = Buffer::new();

@@ -4,31 +4,33 @@ use Rattle.std.proofs.Common.{◌∷◌, map, length, get_or, arith, refl, ap, �
 use Rattle.std.proofs.Math.ListN.{get_or-map}
 use Rattle.std.proofs.lemmas.Bool.{cases_lt, lt-ltb, le-ltb}
 use Rattle.std.proofs.lemmas.List.{length-map, map-append}
-use Rattle.common.specs.declared.limits.TheConstants.{MAX_EVENTS, MAX_ADDRESSES}
+use Rattle.recording.specs.declared.size.RecordingSize.{RecordingSize}
+use Rattle.recording.specs.Sizes.{most_events, most_addresses}
+use Rattle.recording.specs.RecordingLaws.{events_of_size, addresses_of_size}
 use Rattle.recording.specs.declared.event.Event.{Event}
 use Rattle.recording.specs.declared.event.Event.TheVariants.{L, S, R, C, F}
 use Rattle.recording.specs.Event.{read_address, written_address, source}
 use Rattle.recording.specs.Execution.{Execution, placed_from, event_count, event_at, write_list, source_of}
 use Rattle.recorder.specs.Clipped.{clip, clip_event, clipped}
 
--- within the limits each event has a number below the greatest of 16 bits
-pub events_fit : MAX_EVENTS < 2 ^ 16 - 1
-events_fit = omega arith
+-- within the limits each event has a number below the greatest of 32 bits
+pub events_fit : (size : RecordingSize) → most_events size < 2 ^ 32 - 1
+events_fit size = omega (arith, events_of_size size)
 
 -- and each address
-pub addresses_fit : MAX_ADDRESSES < 2 ^ 16 - 1
-addresses_fit = omega arith
+pub addresses_fit : (size : RecordingSize) → most_addresses size < 2 ^ 32 - 1
+addresses_fit size = omega (arith, addresses_of_size size)
 
--- a number below the greatest of 16 bits is not clipped
-pub small : (n : ℕ) → n < 2 ^ 16 - 1 → clip n ≡ n
-small n h = rw (lt-ltb n (2 ^ 16) (omega arith)) refl
+-- a number below the greatest of 32 bits is not clipped
+pub small : (n : ℕ) → n < 2 ^ 32 - 1 → clip n ≡ n
+small n h = rw (lt-ltb n (2 ^ 32) (omega arith)) refl
 
--- a clipped number below the greatest of 16 bits was not clipped
-pub unclipped : (n : ℕ) → clip n < 2 ^ 16 - 1 → clip n ≡ n
-unclipped n h = elim (cases_lt n (2 ^ 16)) [
-  | inl below ↦ rw (lt-ltb n (2 ^ 16) below) refl
-  | inr past ↦ let most : clip n ≡ 2 ^ 16 - 1 =
-      rw (le-ltb n (2 ^ 16) past) refl in absurd (omega (arith, h, most))
+-- a clipped number below the greatest of 32 bits was not clipped
+pub unclipped : (n : ℕ) → clip n < 2 ^ 32 - 1 → clip n ≡ n
+unclipped n h = elim (cases_lt n (2 ^ 32)) [
+  | inl below ↦ rw (lt-ltb n (2 ^ 32) below) refl
+  | inr past ↦ let most : clip n ≡ 2 ^ 32 - 1 =
+      rw (le-ltb n (2 ^ 32) past) refl in absurd (omega (arith, h, most))
 ]
 
 -- the addresses and the source of a clipped event are clipped

@@ -2,10 +2,11 @@
 use Rattle.std.proofs.Common.{◌≡◌, ◌<◌, ◌+◌, ◌-◌, ℕ, List, [], ◌∷◌, map, length}
 use Rattle.std.proofs.Common.{get_or, arith, refl, sym, ap, subst, ◌∙◌}
 use Rattle.std.proofs.lemmas.List.{length-map, ext_get_or, get_or-map}
+use Rattle.recording.specs.declared.size.RecordingSize.{RecordingSize}
 use Rattle.recording.specs.declared.event.Event.{Event}
 use Rattle.recording.specs.declared.event.Event.TheVariants.{F}
 use Rattle.recording.specs.Execution.{Execution, placed_from, event_at, write_list}
-use Rattle.recording.specs.Recording.{IsRecording, IsWithinLimits}
+use Rattle.recording.specs.Recording.{IsRecordingWithin, IsWithinLimits}
 use Rattle.recorder.specs.Clipped.{clip, clip_event, clipped}
 use Rattle.recording.specs.PlacedLaws.{placed_here, placed_after}
 use Rattle.recording.specs.RefusalLaws.{source_of_recording}
@@ -53,9 +54,9 @@ unfolding event_at
 execution_fixed x events lists = rw (cores_fixed 0 x.cores events, lists_fixed x lists) refl
 
 -- an execution whose clipped form is a recording was not clipped
-pub recording_from : (x : Execution) → IsRecording (clipped x) → clipped x ≡ x
-recording_from x is =
-    let within : IsWithinLimits x = within_from x is.within in
+pub recording_from : (size : RecordingSize) (x : Execution) → IsRecordingWithin size (clipped x) → clipped x ≡ x
+recording_from size x is =
+    let within : IsWithinLimits size x = within_from size x is.within in
     let same = event_same x within (λ e. source_from x within e (source_of_recording (clipped x) is e)) in
     execution_fixed x (λ e. sym (event_clipped x e) ∙ same e)
     (λ a. (list_from x within a (is.well_formed.write_lists a)).0)

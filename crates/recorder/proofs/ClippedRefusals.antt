@@ -4,6 +4,7 @@ use Rattle.std.proofs.Common.{◌∷◌, map, slice_index, arith, refl, sym, ap,
 use Rattle.recording.specs.declared.fault.RecError.{RecError}
 use Rattle.recording.specs.declared.fault.RecError.TheVariants.{NotJson, Shape, Version, Limits, Source, Value}
 use Rattle.recording.specs.declared.fault.RecError.TheVariants.{WriteList, OutOfMemory}
+use Rattle.recording.specs.declared.size.RecordingSize.{RecordingSize}
 use Rattle.recording.specs.declared.event.Event.{Event}
 use Rattle.recording.specs.declared.event.Event.TheVariants.{L, S, R, C, F}
 use Rattle.recording.specs.Event.{read_address, written_address, source, value_read, value_written}
@@ -20,21 +21,21 @@ use Rattle.recorder.proofs.ClippedLimits.{fits, within_from, within_to, reads_to
 use Rattle.recorder.proofs.ClippedLimits.{writes_from, writer_fits}
 
 -- where a clipped event has its source, the event has it
-pub source_from : (x : Execution) → IsWithinLimits x → (e : ℕ) → HasSource (clipped x) e → HasSource x e
+pub source_from : {size : RecordingSize} (x : Execution) → IsWithinLimits size x → (e : ℕ) → HasSource (clipped x) e → HasSource x e
 source_from x within e has a s reads is =
     let writes = writes_from x within (clip s) a (has a (clip s) (reads_to x within e a reads)
     (sources_clipped x e ∙ ap (option_map clip) is)) in
     rw (unclipped s (writer_fits x within (clip s) a writes)) at writes
 
 -- and the other way round
-source_to : (x : Execution) → IsWithinLimits x → (e : ℕ) → HasSource x e → HasSource (clipped x) e
+source_to : {size : RecordingSize} (x : Execution) → IsWithinLimits size x → (e : ℕ) → HasSource x e → HasSource (clipped x) e
 source_to x within e has a t reads is =
     let from = some_mapped clip (source_of x e) t (sym (sources_clipped x e) ∙ is) in
     let writes = has a from.0 (reads_from x within e a reads) from.1 in
     writes_to x within t a (rw (sym (small from.0 (writer_fits x within from.0 a writes)) ∙ from.2) at writes)
 
 -- where each read has its source, no source is clipped
-pub source_fits : (x : Execution) → IsWithinLimits x → (e a : ℕ) → HasSource x e → Reads x e a
+pub source_fits : {size : RecordingSize} (x : Execution) → IsWithinLimits size x → (e a : ℕ) → HasSource x e → Reads x e a
     → source_of (clipped x) e ≡ source_of x e
 source_fits x within e a has reads = sources_clipped x e
     ∙ fixed (source_of x e) (λ s is. small s (writer_fits x within s a (has a s reads is)))
@@ -54,7 +55,7 @@ event_fixed (C a r s) reads writes = rw ((reads a refl).0, (reads a refl).1) ref
 event_fixed F reads writes = refl
 
 -- within the limits, where each read has its source, no event is clipped
-pub event_same : (x : Execution) → IsWithinLimits x → ((e : ℕ) → HasSource x e) → (e : ℕ)
+pub event_same : {size : RecordingSize} (x : Execution) → IsWithinLimits size x → ((e : ℕ) → HasSource x e) → (e : ℕ)
     → event_at (clipped x) e ≡ event_at x e
 event_same x within sources e =
     event_clipped x e ∙ event_fixed (event_at x e)
@@ -80,15 +81,15 @@ stands_after : (x : ℕ) (xs : List ℕ) (e : ℕ) → 0 < times xs e → 0 < ti
 unfolding times
 stands_after x xs e stands = omega arith
 
--- a list whose clipped numbers are below the greatest of 16 bits was not clipped
-list_unclipped : (xs : List ℕ) → ((e : ℕ) → 0 < times (map clip xs) e → e < 2 ^ 16 - 1) → map clip xs ≡ xs
+-- a list whose clipped numbers are below the greatest of 32 bits was not clipped
+list_unclipped : (xs : List ℕ) → ((e : ℕ) → 0 < times (map clip xs) e → e < 2 ^ 32 - 1) → map clip xs ≡ xs
 list_unclipped [] below = refl
 list_unclipped (x ∷ xs) below =
     let first = unclipped x (below (clip x) (omega (arith, times_here (map clip xs) (clip x) (clip x) refl))) in
     rw (first, list_unclipped xs (λ e stands. below e (stands_after (clip x) (map clip xs) e stands))) refl
 
--- a list of numbers below the greatest of 16 bits is not clipped
-list_small : (xs : List ℕ) → ((e : ℕ) → 0 < times xs e → e < 2 ^ 16 - 1) → map clip xs ≡ xs
+-- a list of numbers below the greatest of 32 bits is not clipped
+list_small : (xs : List ℕ) → ((e : ℕ) → 0 < times xs e → e < 2 ^ 32 - 1) → map clip xs ≡ xs
 list_small [] below = refl
 list_small (x ∷ xs) below =
     let first = small x (below x (omega (arith, times_here xs x x refl))) in
@@ -104,7 +105,7 @@ list_alike x y a same back on has = record {
 }
 
 -- a write list that a clipped execution has was not clipped, and the execution has it
-pub list_from : (x : Execution) → IsWithinLimits x → (a : ℕ) → HasWriteList (clipped x) a
+pub list_from : {size : RecordingSize} (x : Execution) → IsWithinLimits size x → (a : ℕ) → HasWriteList (clipped x) a
     → (map clip (write_list x a) ≡ write_list x a) × HasWriteList x a
 list_from x within a has =
     let same = list_unclipped (write_list x a) (λ e stands. writer_fits x within e a
@@ -115,7 +116,7 @@ list_from x within a has =
     )
 
 -- and the other way round
-list_to : (x : Execution) → IsWithinLimits x → (a : ℕ) → HasWriteList x a → HasWriteList (clipped x) a
+list_to : {size : RecordingSize} (x : Execution) → IsWithinLimits size x → (a : ℕ) → HasWriteList x a → HasWriteList (clipped x) a
 list_to x within a has =
     let same = list_small (write_list x a) (λ e stands. writer_fits x within e a (has.nothing_else e stands)) in
     list_alike x (clipped x) a (sym (list_clipped x a ∙ same)) (λ e. writes_from x within e a)
@@ -127,24 +128,25 @@ least_same : (P Q : ℕ → Type 0) (n : ℕ) → ((m : ℕ) → P m → Q m) �
 least_same P Q n to from least = (λ q. least.0 (from n q), λ m below. to m (least.1 m below))
 
 -- each refusal of a clipped execution is the refusal of the execution
-pub refusal_from : (x : Execution) (r : RecError) → IsRefusal (clipped x) r → IsRefusal x r
-refusal_from x Limits past = λ within. past (within_to x within)
-refusal_from x (Source e) (clips, least) =
-    let within = within_from x clips in (
+pub refusal_from : (size : RecordingSize) (x : Execution) (r : RecError) → IsRefusal size (clipped x) r
+    → IsRefusal size x r
+refusal_from size x Limits past = λ within. past (within_to size x within)
+refusal_from size x (Source e) (clips, least) =
+    let within = within_from size x clips in (
       within,
       least_same (HasSource (clipped x)) (HasSource x) e (source_from x within)
           (source_to x within) least,
     )
-refusal_from x (Value e) (clips, sources, least) =
-    let within = within_from x clips in
+refusal_from size x (Value e) (clips, sources, least) =
+    let within = within_from size x clips in
     let has : (f : ℕ) → HasSource x f = λ f. source_from x within f (sources f) in (
       within,
       has,
       least_same (HasValue (clipped x)) (HasValue x) e (value_alike (clipped x) x (event_same x within has) refl)
           (value_alike x (clipped x) (λ f. sym (event_same x within has f)) refl) least,
     )
-refusal_from x (WriteList a) (clips, sources, values, least) =
-    let within = within_from x clips in
+refusal_from size x (WriteList a) (clips, sources, values, least) =
+    let within = within_from size x clips in
     let has : (f : ℕ) → HasSource x f = λ f. source_from x within f (sources f) in (
       within,
       has,
@@ -152,7 +154,7 @@ refusal_from x (WriteList a) (clips, sources, values, least) =
       least_same (HasWriteList (clipped x)) (HasWriteList x) a (λ b is. (list_from x within b is).1)
           (list_to x within) least,
     )
-refusal_from x NotJson wrong = wrong
-refusal_from x Shape wrong = wrong
-refusal_from x Version wrong = wrong
-refusal_from x OutOfMemory wrong = wrong
+refusal_from size x NotJson wrong = wrong
+refusal_from size x Shape wrong = wrong
+refusal_from size x Version wrong = wrong
+refusal_from size x OutOfMemory wrong = wrong

@@ -7,6 +7,7 @@ use Rattle.json.specs.Lex.{tokens}
 use Rattle.json.specs.Json.{value}
 use Rattle.serde_json.specs.Read.{max_depth}
 use Rattle.serde_json.specs.Data.{Members, object}
+use Rattle.recording.specs.declared.size.RecordingSize.{RecordingSize}
 use Rattle.recording.specs.declared.event.Event.{Event}
 use Rattle.recorder.specs.declared.tokens.ReadMembers.{ReadMembers}
 use Rattle.recorder.specs.declared.reading.Parsed.{Parsed}
@@ -29,9 +30,9 @@ abbrev lists_there : {A : Type 0} → Option (Vec (Vec A Global) Global) → Opt
 lists_there o = option_map (λ v. map (λ w. w.items) v.items) o
 
 -- the version
-pub version_added : (p : ReadMembers) (o : Option ℕ) {x depth : ℕ} {ts rest : List Token}
+pub version_added : {size : RecordingSize} (p : ReadMembers) (o : Option ℕ) {x depth : ℕ} {ts rest : List Token}
     → GivesValue natural depth ts x rest → p.version ≡ None → o ≡ Some x
-    → Adds AreParts (codes "version") depth ts rest p (record p { version = o })
+    → Adds (AreParts size) (codes "version") depth ts rest p (record p { version = o })
 version_added p o g none is = adds g (λ ms d gives h. record {
   version = at_new ms d gives is;
   cores = (h.cores.0, at_other (codes "version") d refl h.cores.1, h.cores.2);
@@ -41,11 +42,11 @@ version_added p o g none is = adds g (λ ms d gives h. record {
 })
 
 -- the events of each core
-pub cores_added : (p : ReadMembers) (o : Option (Vec (Vec Event Global) Global)) {x : Vec (Vec Event Global) Global}
+pub cores_added : {size : RecordingSize} (p : ReadMembers) (o : Option (Vec (Vec Event Global) Global)) {x : Vec (Vec Event Global) Global}
     {xs : List (List Event)} {depth : ℕ} {ts rest : List Token}
     → GivesValue (list_in (list_in clipped_event)) depth ts xs rest
-    → HoldsCores (map (λ w. w.items) x.items) xs → p.cores ≡ None → o ≡ Some x
-    → Adds AreParts (codes "cores") depth ts rest p (record p { cores = o })
+    → HoldsCores size (map (λ w. w.items) x.items) xs → p.cores ≡ None → o ≡ Some x
+    → Adds (AreParts size) (codes "cores") depth ts rest p (record p { cores = o })
 cores_added p o {xs = xs} g holds none is = adds g (λ ms d gives h. record {
   version = at_other (codes "cores") d refl h.version;
   cores = (Some xs, at_new ms d gives refl, rw is (xs, refl, holds));
@@ -61,11 +62,11 @@ cores_added p o {xs = xs} g holds none is = adds g (λ ms d gives h. record {
 })
 
 -- the write lists
-pub writes_added : (p : ReadMembers) (o : Option (Vec (Vec ℕ Global) Global)) {x : Vec (Vec ℕ Global) Global}
+pub writes_added : {size : RecordingSize} (p : ReadMembers) (o : Option (Vec (Vec ℕ Global) Global)) {x : Vec (Vec ℕ Global) Global}
     {xs : List (List ℕ)} {depth : ℕ} {ts rest : List Token}
     → GivesValue (list_in (list_in clipped_number)) depth ts xs rest
-    → HoldsLists (map (λ w. w.items) x.items) xs → p.writes ≡ None → o ≡ Some x
-    → Adds AreParts (codes "writes") depth ts rest p (record p { writes = o })
+    → HoldsLists size (map (λ w. w.items) x.items) xs → p.writes ≡ None → o ≡ Some x
+    → Adds (AreParts size) (codes "writes") depth ts rest p (record p { writes = o })
 writes_added p o {xs = xs} g holds none is = adds g (λ ms d gives h. record {
   version = at_other (codes "writes") d refl h.version;
   cores = (h.cores.0, at_other (codes "writes") d refl h.cores.1, h.cores.2);
@@ -81,9 +82,9 @@ writes_added p o {xs = xs} g holds none is = adds g (λ ms d gives h. record {
 })
 
 -- the initial values
-pub init_added : (p : ReadMembers) (o : Option (Vec ℕ Global)) {x : Vec ℕ Global} {depth : ℕ} {ts rest : List Token}
+pub init_added : {size : RecordingSize} (p : ReadMembers) (o : Option (Vec ℕ Global)) {x : Vec ℕ Global} {depth : ℕ} {ts rest : List Token}
     → GivesValue (list_in value_in) depth ts x.items rest → p.init ≡ None → o ≡ Some x
-    → Adds AreParts (codes "init") depth ts rest p (record p { init = o })
+    → Adds (AreParts size) (codes "init") depth ts rest p (record p { init = o })
 init_added p o g none is =
     let items : Option (Vec ℕ Global) → Option (List ℕ) = λ i. option_map (λ v. v.items) i in
     adds g (λ ms d gives h. record {
@@ -113,10 +114,10 @@ parts_there (Some v) (Some cs) (Some ws) values q is =
     )
 
 -- for parts that stand for others
-parts_stand : (v : Option ℕ) (cs ds : Option (List (List Event))) (ws us : Option (List (List ℕ)))
-    (values : Option (List ℕ)) (q : ParsedModel) → HoldsSome HoldsCores cs ds → HoldsSome HoldsLists ws us
-    → parsed_parts v cs ws values ≡ Some q → (c : ParsedModel) × (parsed_parts v ds us values ≡ Some c) × StandsFor q c
-parts_stand v cs ds ws us values q cores lists is =
+parts_stand : (size : RecordingSize) (v : Option ℕ) (cs ds : Option (List (List Event))) (ws us : Option (List (List ℕ)))
+    (values : Option (List ℕ)) (q : ParsedModel) → HoldsSome (HoldsCores size) cs ds → HoldsSome (HoldsLists size) ws us
+    → parsed_parts v cs ws values ≡ Some q → (c : ParsedModel) × (parsed_parts v ds us values ≡ Some c) × StandsFor size q c
+parts_stand size v cs ds ws us values q cores lists is =
     let there = parts_there v cs ws values q is in
     let all = rw there.1 at cores in
     let both = rw there.2 at lists in (
@@ -131,31 +132,31 @@ parts_stand v cs ds ws us values q cores lists is =
     are o es xs first second third = rw (first, second, third) refl
 
 -- so do contents
-contents_stand : (n : ℕ) (v : Option ℕ) (cs ds : Option (List (List Event))) (ws us : Option (List (List ℕ)))
-    (init : Option (List ℕ)) (q : ParsedModel) → HoldsSome HoldsCores cs ds → HoldsSome HoldsLists ws us
-    → contents_of n v cs ws init ≡ Some q → (c : ParsedModel) × (contents_of n v ds us init ≡ Some c) × StandsFor q c
+contents_stand : (size : RecordingSize) (n : ℕ) (v : Option ℕ) (cs ds : Option (List (List Event))) (ws us : Option (List (List ℕ)))
+    (init : Option (List ℕ)) (q : ParsedModel) → HoldsSome (HoldsCores size) cs ds → HoldsSome (HoldsLists size) ws us
+    → contents_of n v cs ws init ≡ Some q → (c : ParsedModel) × (contents_of n v ds us init ≡ Some c) × StandsFor size q c
 unfolding contents_of
-contents_stand n v cs ds ws us init q cores lists is = go (n == 3) (n == 4) init is
+contents_stand size n v cs ds ws us init q cores lists is = go (n == 3) (n == 4) init is
   where
     go : (three four : Bool) (i : Option (List ℕ))
         → (if three then parsed_parts v cs ws None
         else (if four then option_and_then (λ j. parsed_parts v cs ws (Some j)) i else None)) ≡ Some q
         → (c : ParsedModel) × ((if three then parsed_parts v ds us None
-        else (if four then option_and_then (λ j. parsed_parts v ds us (Some j)) i else None)) ≡ Some c) × StandsFor q c
-    go true four i is = parts_stand v cs ds ws us None q cores lists is
+        else (if four then option_and_then (λ j. parsed_parts v ds us (Some j)) i else None)) ≡ Some c) × StandsFor size q c
+    go true four i is = parts_stand size v cs ds ws us None q cores lists is
     go false true None is = absurd cc
-    go false true (Some j) is = parts_stand v cs ds ws us (Some j) q cores lists is
+    go false true (Some j) is = parts_stand size v cs ds ws us (Some j) q cores lists is
     go false false i is = absurd cc
 
 -- what was found stands for the contents that the members give
-pub found_gives : (p : ReadMembers) (n : ℕ) (ms : Members) (o : Option Parsed) (q : Parsed) → AreParts p ms
+pub found_gives : (size : RecordingSize) (p : ReadMembers) (n : ℕ) (ms : Members) (o : Option Parsed) (q : Parsed) → AreParts size p ms
     → n ≡ count_of p.version + count_of p.cores + count_of p.writes + count_of p.init
     → option_map model_of o ≡ contents_of n p.version (lists_there p.cores) (lists_there p.writes)
     (option_map (λ v. v.items) p.init) → o ≡ Some q
-    → (c : ParsedModel) × (clipped_contents (object ms) ≡ Some c) × StandsFor (model_of q) c
-found_gives p n ms o q h count is found =
+    → (c : ParsedModel) × (clipped_contents (object ms) ≡ Some c) × StandsFor size (model_of q) c
+found_gives size p n ms o q h count is found =
     let init = option_map (λ (v : Vec ℕ Global). v.items) p.init in
-    let c = contents_stand n p.version (lists_there p.cores) h.cores.0 (lists_there p.writes) h.writes.0 init
+    let c = contents_stand size n p.version (lists_there p.cores) h.cores.0 (lists_there p.writes) h.writes.0 init
     (model_of q) h.cores.2 h.writes.2 (sym is ∙ ap (option_map model_of) found) in (
       c.0,
       shape_given (object ms) n p.version h.cores.0 h.writes.0 init (ap Some (h.count ∙ sym count))
@@ -167,10 +168,10 @@ found_gives p n ms o q h count is found =
     )
 
 -- the bytes are read so, where their tokens give the contents and nothing follows
-pub members_read : (bytes text : List ℕ) (reader : List Token) (c : ParsedModel) (q : Parsed)
+pub members_read : (size : RecordingSize) (bytes text : List ℕ) (reader : List Token) (c : ParsedModel) (q : Parsed)
     → (text ≡ bytes) × IsUtf8 bytes → reader ≡ tokens text
-    → GivesValue clipped_contents max_depth reader c [] → StandsFor (model_of q) c → IsParsedFrom bytes q
-members_read bytes text reader c q read is given stands =
+    → GivesValue clipped_contents max_depth reader c [] → StandsFor size (model_of q) c → IsParsedFrom size bytes q
+members_read size bytes text reader c q read is given stands =
     let all : reader ≡ tokens bytes = is ∙ ap tokens read.0 in
     let g : GivesValue clipped_contents max_depth (tokens bytes) c [] =
     subst (λ (ts : List Token). GivesValue clipped_contents max_depth ts c []) all given in

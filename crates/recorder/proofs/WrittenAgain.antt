@@ -19,6 +19,7 @@ use Rattle.serde_json.specs.View.{items_of}
 use Rattle.serde_json.specs.Written.{outline, items_outline, compact_text, has_float, items_have_float}
 use Rattle.serde_json.proofs.Numbers.{number_of-decimal}
 use Rattle.serde_json.proofs.Texts.{print-outline}
+use Rattle.recording.specs.declared.size.RecordingSize.{RecordingSize}
 use Rattle.recording.specs.declared.event.Event.{Event}
 use Rattle.recording.specs.declared.event.Event.TheVariants.{L, S, R, C, F}
 use Rattle.recording.specs.Execution.{Execution}
@@ -31,7 +32,7 @@ use Rattle.recorder.specs.Clipped.{clip, clip_event, clipped_shape}
 use Rattle.recorder.specs.Reading.{natural, value_in, event_in, list_in, contents_of, shape_in, Decodes}
 use Rattle.recorder.specs.Text.{number_data, list_data, source_data, members, read_members, event_data, data_of}
 use Rattle.recorder.specs.Text.{contents_data, values_of, is_of_version_1}
-use Rattle.recorder.specs.Written.{IsShort, IsWord, IsShortSource, IsFitting, AreFitting, version_of}
+use Rattle.recorder.specs.Written.{IsWord, IsWordSource, IsFitting, AreFitting, version_of}
 use Rattle.recorder.specs.Written.{BeginsRecording}
 use Rattle.recorder.proofs.Again.{number_again, value_again, event_again}
 use Rattle.recorder.proofs.Newline.{tokens_newline}
@@ -63,7 +64,7 @@ number_rereads n h = record {
 }
 
 -- a source
-source_rereads : (s : Option ℕ) → IsShortSource s → Rereads 0 (source_data s)
+source_rereads : (s : Option ℕ) → IsWordSource s → Rereads 0 (source_data s)
 source_rereads None h = record { same = refl; numbers = tt; shallow = omega arith; no_float = refl }
 source_rereads (Some s) h = number_rereads s (omega (arith, h))
 
@@ -94,7 +95,7 @@ list_rereads f Fits k each xs all =
     }
 
 -- an event that reads, of this kind
-read_rereads : (kind : List ℕ) (a r : ℕ) (s : Option ℕ) → IsShort a → IsWord r → IsShortSource s
+read_rereads : (kind : List ℕ) (a r : ℕ) (s : Option ℕ) → IsWord a → IsWord r → IsWordSource s
     → Rereads 1 (object (members (read_members kind a r s)))
 read_rereads kind a r s short word source =
     let x = number_rereads a (omega (arith, short)) in
@@ -140,10 +141,10 @@ cores_reread = list_rereads (list_data event_data) (AllByRecursion IsFitting) 2
     (list_rereads event_data IsFitting 1 event_rereads)
 
 -- the write lists
-lists_reread : (lists : List (List ℕ)) → AllByRecursion (AllByRecursion IsShort) lists
+lists_reread : (lists : List (List ℕ)) → AllByRecursion (AllByRecursion IsWord) lists
     → Rereads 2 (list_data (list_data number_data) lists)
-lists_reread = list_rereads (list_data number_data) (AllByRecursion IsShort) 1
-    (list_rereads number_data IsShort 0 (λ n h. number_rereads n (omega (arith, h))))
+lists_reread = list_rereads (list_data number_data) (AllByRecursion IsWord) 1
+    (list_rereads number_data IsWord 0 (λ n h. number_rereads n (omega (arith, h))))
 
 -- the initial values
 values_reread : (values : List ℕ) → AllByRecursion IsWord values → Rereads 1 (list_data number_data values)
@@ -196,12 +197,12 @@ read_bytes bytes rest d h is ends =
 
 -- ---- the value has the contents, and none of them is clipped
 
--- a number of 16 bits
-clip_same : (n : ℕ) → IsShort n → clip n ≡ n
-clip_same n h = rw (lt-ltb n (2 ^ 16) h) refl
+-- a number of 32 bits
+clip_same : (n : ℕ) → IsWord n → clip n ≡ n
+clip_same n h = rw (lt-ltb n (2 ^ 32) h) refl
 
 -- a source
-clip_source : (s : Option ℕ) → IsShortSource s → option_map clip s ≡ s
+clip_source : (s : Option ℕ) → IsWordSource s → option_map clip s ≡ s
 clip_source None h = refl
 clip_source (Some s) h = ap Some (clip_same s h)
 
@@ -233,10 +234,10 @@ cores_again = fitting_again (list_in event_in) (list_data event_data) (AllByRecu
     (fitting_again event_in event_data IsFitting event_again)
 
 -- the write lists
-lists_again : (lists : List (List ℕ)) → AllByRecursion (AllByRecursion IsShort) lists
+lists_again : (lists : List (List ℕ)) → AllByRecursion (AllByRecursion IsWord) lists
     → list_in (list_in natural) (list_data (list_data number_data) lists) ≡ Some lists
-lists_again = fitting_again (list_in natural) (list_data number_data) (AllByRecursion IsShort)
-    (fitting_again natural number_data IsShort (λ n h. number_again n))
+lists_again = fitting_again (list_in natural) (list_data number_data) (AllByRecursion IsWord)
+    (fitting_again natural number_data IsWord (λ n h. number_again n))
 
 -- and the initial values
 init_again : (values : List ℕ) → AllByRecursion IsWord values
@@ -261,7 +262,7 @@ contents_again values cores lists h =
     ∙ rw (
       map_same (map clip_event) (AllByRecursion IsFitting) (map_same clip_event IsFitting clip_event_same) cores
           h.events,
-      map_same (map clip) (AllByRecursion IsShort) (map_same clip IsShort clip_same) lists h.numbers,
+      map_same (map clip) (AllByRecursion IsWord) (map_same clip IsWord clip_same) lists h.numbers,
     ) refl
 
 -- contents of another number of the version
@@ -274,8 +275,8 @@ versioned c is = rw (← is) refl
 
 -- what was found of the bytes is what they have
 pub written_read : (bytes rest : List ℕ) (q : Parsed) → IsUtf8 bytes → BeginsRecording bytes (model_of q) rest
-    → (rest ≡ []) ⊎ (rest ≡ 10 ∷ []) → IsParsedFrom bytes q
-written_read bytes rest q utf8 h ends =
+    → (rest ≡ []) ⊎ (rest ≡ 10 ∷ []) → (size : RecordingSize) → IsParsedFrom size bytes q
+written_read bytes rest q utf8 h ends size =
     let c : ParsedModel = model_of q in
     let again = contents_reread c.values c.cores c.write_lists h.fits in (
       contents_data c.values c.cores c.write_lists,

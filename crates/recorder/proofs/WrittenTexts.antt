@@ -9,7 +9,7 @@ use Rattle.serde_json.specs.View.{items_of}
 use Rattle.serde_json.specs.Written.{compact_text, items_text}
 use Rattle.recording.specs.declared.event.Event.{Event}
 use Rattle.recorder.specs.Text.{number_data, list_data, event_data}
-use Rattle.recorder.specs.Written.{IsShort, IsFitting, IsHead, Begins}
+use Rattle.recorder.specs.Written.{IsWord, IsFitting, IsHead, Begins}
 use Rattle.recorder.specs.Written.{version_of, BeginsRecording}
 
 -- one digit more
@@ -129,7 +129,7 @@ pub found_begins : (text a b c d e rest : List ℕ) (version : ℕ) (values : Op
     (cores : List (List Event)) (lists : List (List ℕ)) → text ≡ codes "{\"cores\":" ++ a
     → Begins (list_data (list_data event_data)) (AllByRecursion (AllByRecursion IsFitting)) a cores b
     → IsHead b values c → c ≡ codes ",\"writes\":" ++ d
-    → Begins (list_data (list_data number_data)) (AllByRecursion (AllByRecursion IsShort)) d lists e
+    → Begins (list_data (list_data number_data)) (AllByRecursion (AllByRecursion IsWord)) d lists e
     → e ≡ 125 ∷ rest → version ≡ version_of values
     → BeginsRecording text (record { version = version; cores = cores; write_lists = lists; values = values }) rest
 unfolding escape_byte

@@ -1,5 +1,5 @@
--- What the readers hold of an execution: 16 bits of each number. Within the limits a greater number
--- names nothing, and neither does the greatest of 16 bits.
+-- What the readers hold of an execution: 32 bits of each number. Within the limits a greater number
+-- names nothing, and neither does the greatest of 32 bits.
 use Rattle.std.specs.Prelude.{◌^◌, ◌-◌, ℕ, Option, option_map, map, nat_lt, if◌then◌else◌}
 use Rattle.serde_json.specs.Data.{Data}
 use Rattle.recording.specs.declared.event.Event.{Event}
@@ -9,9 +9,9 @@ use Rattle.recording.specs.Recording.{executed}
 use Rattle.recorder.specs.ParsedModel.{ParsedModel}
 use Rattle.recorder.specs.Reading.{natural, event_in}
 
--- a number, or the greatest of 16 bits where it is greater
+-- a number, or the greatest of 32 bits where it is greater
 abbrev pub clip : ℕ → ℕ
-clip n = if nat_lt n (2 ^ 16) then n else 2 ^ 16 - 1
+clip n = if nat_lt n (2 ^ 32) then n else 2 ^ 32 - 1
 
 -- an event with its address and its source clipped
 abbrev pub clip_event : Event → Event

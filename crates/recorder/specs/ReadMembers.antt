@@ -3,6 +3,7 @@ use Rattle.std.specs.Prelude.{◌≡◌, ◌+◌, ℕ, List, Option, Some, None,
 use Rattle.serde_json.specs.Data.{Data, Members}
 use Rattle.serde_json.specs.Find.{as_str}
 use Rattle.recording.specs.declared.event.Event.{Event}
+use Rattle.recording.specs.declared.size.RecordingSize.{RecordingSize}
 use Rattle.recorder.specs.declared.tokens.events.Fields.{Fields}
 use Rattle.recorder.specs.declared.tokens.ReadMembers.{ReadMembers}
 use Rattle.recorder.specs.declared.reading.Parsed.{Parsed}
@@ -27,13 +28,13 @@ pub record AreFields (f : Fields) (ms : Members) : Type 0 where
   pub value_written : AtKey value_in (codes "w") ms f.w
   pub count : count_members ms ≡ count_of f.k + count_of f.a + count_of f.r + count_of f.s + count_of f.w
 
--- the members of a recording have what was read, or what that stands for, and nothing else
-pub record AreParts (p : ReadMembers) (ms : Members) : Type 0 where
+-- the members of a recording of a size have what was read, or what that stands for, and nothing else
+pub record AreParts (size : RecordingSize) (p : ReadMembers) (ms : Members) : Type 0 where
   pub version : AtKey natural (codes "version") ms p.version
   pub cores : (o : Option (List (List Event))) × AtKey (list_in (list_in clipped_event)) (codes "cores") ms o
-      × HoldsSome HoldsCores (option_map (λ v. map (λ w. w.items) v.items) p.cores) o
+      × HoldsSome (HoldsCores size) (option_map (λ v. map (λ w. w.items) v.items) p.cores) o
   pub writes : (o : Option (List (List ℕ))) × AtKey (list_in (list_in clipped_number)) (codes "writes") ms o
-      × HoldsSome HoldsLists (option_map (λ v. map (λ w. w.items) v.items) p.writes) o
+      × HoldsSome (HoldsLists size) (option_map (λ v. map (λ w. w.items) v.items) p.writes) o
   pub init : AtKey (list_in value_in) (codes "init") ms (option_map (λ v. v.items) p.init)
   pub count : count_members ms ≡ count_of p.version + count_of p.cores + count_of p.writes + count_of p.init
 
@@ -42,6 +43,6 @@ abbrev pub clipped_contents : Data → Option ParsedModel
 clipped_contents d = option_map clipped_shape (shape_in d)
 
 -- the bytes are read as a value for whose contents what was found stands
-abbrev pub IsParsedFrom : List ℕ → Parsed → Type 0
-IsParsedFrom bytes q = (d : Data) × IsReadAs bytes d × (c : ParsedModel) × (clipped_contents d ≡ Some c)
-    × StandsFor (model_of q) c
+abbrev pub IsParsedFrom : RecordingSize → List ℕ → Parsed → Type 0
+IsParsedFrom size bytes q = (d : Data) × IsReadAs bytes d × (c : ParsedModel) × (clipped_contents d ≡ Some c)
+    × StandsFor size (model_of q) c

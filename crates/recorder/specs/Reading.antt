@@ -9,8 +9,10 @@ use Rattle.recording.specs.declared.event.Event.{Event}
 use Rattle.recording.specs.declared.event.Event.TheVariants.{L, S, R, C, F}
 use Rattle.recording.specs.declared.fault.RecError.{RecError}
 use Rattle.recording.specs.declared.fault.RecError.TheVariants.{NotJson, Shape, Version, OutOfMemory}
+use Rattle.recording.specs.declared.size.RecordingSize.{RecordingSize}
+use Rattle.recording.specs.declared.size.RecordingSize.TheVariants.{Short}
 use Rattle.recording.specs.Execution.{Execution}
-use Rattle.recording.specs.Recording.{IsRecording}
+use Rattle.recording.specs.Recording.{IsRecordingWithin}
 use Rattle.recorder.specs.ParsedModel.{ParsedModel, execution_of, IsVersioned}
 use Rattle.recording.specs.Refusals.{IsRefusal}
 use Rattle.recorder.specs.Text.{IsReadAs}
@@ -107,11 +109,16 @@ IsValuesAlone d = (at_key natural (codes "version") d ≡ Some 3) × (get (codes
 abbrev pub HasOtherVersion : Data → Type 0
 HasOtherVersion d = IsValuesAlone d ⊎ ((c : ParsedModel) × (shape_in d ≡ Some c) × (¬ IsVersioned c))
 
--- what a reader of these bytes may answer: the first refusal in this order; memory alone is left open
+-- what a reader of recordings of a size may answer to these bytes: the first refusal in this order; memory alone is
+-- left open
+abbrev pub IsReadingOf : RecordingSize → List ℕ → Result Execution RecError → Type 0
+IsReadingOf size bytes (Ok x) = (d : Data) × IsReadAs bytes d × Decodes d x × IsRecordingWithin size x
+IsReadingOf size bytes (Err NotJson) = (d : Data) → IsReadAs bytes d → ⊥
+IsReadingOf size bytes (Err Shape) = (d : Data) × IsReadAs bytes d × (shape_in d ≡ None) × (¬ IsValuesAlone d)
+IsReadingOf size bytes (Err Version) = (d : Data) × IsReadAs bytes d × HasOtherVersion d
+IsReadingOf size bytes (Err OutOfMemory) = ⊤
+IsReadingOf size bytes (Err e) = (d : Data) × IsReadAs bytes d × ((x : Execution) × Decodes d x × IsRefusal size x e)
+
+-- what a reader of short recordings may answer
 abbrev pub IsReadingResult : List ℕ → Result Execution RecError → Type 0
-IsReadingResult bytes (Ok x) = (d : Data) × IsReadAs bytes d × Decodes d x × IsRecording x
-IsReadingResult bytes (Err NotJson) = (d : Data) → IsReadAs bytes d → ⊥
-IsReadingResult bytes (Err Shape) = (d : Data) × IsReadAs bytes d × (shape_in d ≡ None) × (¬ IsValuesAlone d)
-IsReadingResult bytes (Err Version) = (d : Data) × IsReadAs bytes d × HasOtherVersion d
-IsReadingResult bytes (Err OutOfMemory) = ⊤
-IsReadingResult bytes (Err e) = (d : Data) × IsReadAs bytes d × ((x : Execution) × Decodes d x × IsRefusal x e)
+IsReadingResult bytes r = IsReadingOf Short bytes r

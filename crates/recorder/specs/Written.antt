@@ -8,25 +8,21 @@ use Rattle.recording.specs.declared.event.Event.TheVariants.{L, S, R, C, F}
 use Rattle.recorder.specs.ParsedModel.{ParsedModel}
 use Rattle.recorder.specs.Text.{number_data, list_data, contents_data}
 
--- 16 bits of the number of an event or of an address
-abbrev pub IsShort : ℕ → Type 0
-IsShort n = n < 2 ^ 16
-
--- 32 bits of a value
+-- 32 bits of a value, or of the number of an event or of an address
 abbrev pub IsWord : ℕ → Type 0
 IsWord n = n < 2 ^ 32
 
--- a source is the initial value, or has 16 bits
-abbrev pub IsShortSource : Option ℕ → Type 0
-IsShortSource None = ⊤
-IsShortSource (Some s) = IsShort s
+-- a source is the initial value, or has 32 bits
+abbrev pub IsWordSource : Option ℕ → Type 0
+IsWordSource None = ⊤
+IsWordSource (Some s) = IsWord s
 
 -- each number of an event fits
 abbrev pub IsFitting : Event → Type 0
-IsFitting (L a r s) = IsShort a × IsWord r × IsShortSource s
-IsFitting (S a w) = IsShort a × IsWord w
-IsFitting (R a r s w) = IsShort a × IsWord r × IsShortSource s × IsWord w
-IsFitting (C a r s) = IsShort a × IsWord r × IsShortSource s
+IsFitting (L a r s) = IsWord a × IsWord r × IsWordSource s
+IsFitting (S a w) = IsWord a × IsWord w
+IsFitting (R a r s w) = IsWord a × IsWord r × IsWordSource s × IsWord w
+IsFitting (C a r s) = IsWord a × IsWord r × IsWordSource s
 IsFitting F = ⊤
 
 -- each initial value fits
@@ -54,7 +50,7 @@ version_of (Some values) = 2
 -- each number of contents fits
 pub record AreFitting (values : Option (List ℕ)) (cores : List (List Event)) (lists : List (List ℕ)) : Type 0 where
   pub events : AllByRecursion (AllByRecursion IsFitting) cores
-  pub numbers : AllByRecursion (AllByRecursion IsShort) lists
+  pub numbers : AllByRecursion (AllByRecursion IsWord) lists
   pub words : AreFittingValues values
 
 -- the text begins with the contents, which fit, and the rest follows them

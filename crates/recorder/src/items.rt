@@ -13,75 +13,98 @@ use crate::values::event_members;
 use crate::versions::has_failed;
 use crate::written::cursor::Cursor;
 use crate::written::events::take_event;
-use common::{MAX_ADDRESSES, MAX_CORES, MAX_EVENTS};
+use common::EventId;
 use json::Reader;
-use recording::Event;
+use recording::{Event, RecordingSize};
 use serde_json::Value;
 use std::alloc::{AllocError, Global};
 
-/// An item of a list: an event, the number of an event, or an initial value.
-pub(crate) trait Item: Drop + Sized {
+/// What the items of a list are.
+pub(crate) trait Kind {
     ghost use Rattle.std.specs.Prelude.{◌≡◌, ◌++◌, ◌∷◌, [], ℕ, suc, List, Option, map, IfOk, IfSome};
     ghost use Rattle.serde_json.specs.Data.{Data};
     ghost use Rattle.serde_json.specs.View.{view};
+    ghost use Rattle.recording.specs.declared.size.RecordingSize.{RecordingSize};
     ghost use Rattle.recorder.specs.Pulled.{GivesValue};
     ghost use Rattle.recorder.specs.Written.{Begins};
 
+    /// An item.
+    type Item: Drop;
+
     /// The value that is written of it.
-    ghost datum: { Self → Data };
+    ghost datum: { Self.Item → Data };
 
     /// What is held of what a value gives.
-    ghost held: { Data → Option Self };
+    ghost held: { Data → Option Self.Item };
 
     /// Each number of it fits.
-    ghost fits: { Self → Type 0 };
+    ghost fits: { Self.Item → Type 0 };
 
     /// What is held for a list.
-    ghost holds: { List Self → List Self → Type 0 };
+    ghost holds: { RecordingSize → List Self.Item → List Self.Item → Type 0 };
 
     /// What is held for lists.
-    ghost holds_lists: { List (List Self) → List (List Self) → Type 0 };
+    ghost holds_lists: { RecordingSize → List (List Self.Item) → List (List Self.Item) → Type 0 };
 
     /// Takes the item that stands next in a text in the layout of `write_recording`.
-    fn take(rest: &mut Cursor<'_>) -> Option<Self>
+    fn take(rest: &mut Cursor<'_>) -> Option<Self::Item>
         ensures { IfSome result (λ x. Begins datum fits rest.old x rest.new) };
 
     /// Reads the item that stands next among tokens.
-    fn pull(reader: &mut Reader<'_>) -> Option<Self>
+    fn pull(reader: &mut Reader<'_>) -> Option<Self::Item>
         ensures { IfSome result (λ x. (depth : ℕ) → GivesValue held (suc depth) reader.old x reader.new) };
 
     /// Holds an item more of a list.
-    fn hold(found: &mut Vec<Self>, item: Self) -> Result<(), AllocError>
-        ensures { IfOk result (λ _. (items : List Self) → holds found.old.items items
-            → holds found.new.items (items ++ item ∷ [])) };
+    fn hold(
+        found: &mut Vec<Self::Item>,
+        item: Self::Item,
+        size: RecordingSize,
+    ) -> Result<(), AllocError>
+        ensures { IfOk result (λ _. (items : List Self.Item) → holds size found.old.items items
+            → holds size found.new.items (items ++ item ∷ [])) };
 
     /// Holds a list more.
-    fn hold_list(found: &mut Vec<Vec<Self>>, list: Vec<Self>) -> Result<(), AllocError>
-        ensures { IfOk result (λ _. (lists : List (List Self)) (items : List Self)
-            → holds_lists (map (λ v. v.items) found.old.items) lists → holds list.items items
-            → holds_lists (map (λ v. v.items) found.new.items) (lists ++ items ∷ [])) };
+    fn hold_list(
+        found: &mut Vec<Vec<Self::Item>>,
+        list: Vec<Self::Item>,
+        size: RecordingSize,
+    ) -> Result<(), AllocError>
+        ensures { IfOk result (λ _. (lists : List (List Self.Item)) (items : List Self.Item)
+            → holds_lists size (map (λ v. v.items) found.old.items) lists → holds size list.items items
+            → holds_lists size (map (λ v. v.items) found.new.items) (lists ++ items ∷ [])) };
 
     /// The item that a value gives.
-    fn read(value: &Value) -> Option<Self>
+    fn read(value: &Value) -> Option<Self::Item>
         ensures { result ≡ held (view value.now) };
 
-    /// The value of the item.
-    fn value(&self, alloc: Global) -> Result<Value, AllocError>
-        ensures value { IfOk result (λ v. view v ≡ datum self.now) }
-        ensures fits { IfOk result (λ _. fits self.now) };
+    /// The value of an item.
+    fn value(item: &Self::Item, alloc: Global) -> Result<Value, AllocError>
+        ensures value { IfOk result (λ v. view v ≡ datum item.now) }
+        ensures fits { IfOk result (λ _. fits item.now) };
 
-    ghost holds_none: { holds [] [] };
+    ghost holds_none: { (size : RecordingSize) → holds size [] [] };
 
-    ghost holds_no_list: { holds_lists [] [] };
+    ghost holds_no_list: { (size : RecordingSize) → holds_lists size [] [] };
 }
 
-impl Item for Event {
+/// Events. It has no values.
+pub(crate) enum Events {}
+
+/// The numbers of events. It has no values.
+pub(crate) enum Numbers {}
+
+/// Initial values. It has no values.
+pub(crate) enum Values {}
+
+impl Kind for Events {
     ghost use Rattle.std.proofs.Common.{◌++◌, ◌∷◌, [], List, map, IfOk, refl, inl};
     ghost use Rattle.recording.specs.declared.event.Event.{Event};
     ghost use Rattle.recorder.specs.Held.{HoldsEvents, HoldsCores};
     ghost use Rattle.recorder.specs.Text.{event_data};
     ghost use Rattle.recorder.specs.Clipped.{clipped_event};
     ghost use Rattle.recorder.specs.Written.{IsFitting};
+
+    type Item = Event;
 
     ghost datum = { event_data };
 
@@ -102,30 +125,36 @@ impl Item for Event {
     }
 
     /// Of those that are too many the first is held, or the last compare-and-swap that failed.
-    fn hold(found: &mut Vec<Event>, item: Event) -> Result<(), AllocError> {
-        if found.len() <= MAX_EVENTS {
+    fn hold(found: &mut Vec<Event>, item: Event, size: RecordingSize) -> Result<(), AllocError> {
+        let most = size.events();
+        if found.len() <= most {
             found.push(item)?;
             return Ok(());
         }
         if item.is_failed_cas() {
-            found.truncate(MAX_EVENTS);
+            found.truncate(most);
             found.push(item)?;
         }
         Ok(())
     }
 
     /// Of those that are too many the first is held, or the last in which a compare-and-swap failed.
-    fn hold_list(found: &mut Vec<Vec<Event>>, list: Vec<Event>) -> Result<(), AllocError>
+    fn hold_list(
+        found: &mut Vec<Vec<Event>>,
+        list: Vec<Event>,
+        size: RecordingSize,
+    ) -> Result<(), AllocError>
         ensures { IfOk result (λ _. (lists : List (List Event)) (items : List Event)
-            → HoldsCores (map (λ v. v.items) found.old.items) lists → HoldsEvents list.items items
-            → HoldsCores (map (λ v. v.items) found.new.items) (lists ++ items ∷ [])) }
+            → HoldsCores size (map (λ v. v.items) found.old.items) lists → HoldsEvents size list.items items
+            → HoldsCores size (map (λ v. v.items) found.new.items) (lists ++ items ∷ [])) }
     {
-        if found.len() <= MAX_CORES {
+        let most = size.cores();
+        if found.len() <= most {
             found.push(list)?;
             return Ok(());
         }
         if has_failed(list.as_slice()) {
-            found.truncate(MAX_CORES);
+            found.truncate(most);
             found.push(list)?;
         }
         Ok(())
@@ -135,77 +164,89 @@ impl Item for Event {
         event_in(value)
     }
 
-    fn value(&self, alloc: Global) -> Result<Value, AllocError> {
-        let members = event_members(alloc, self)?;
+    fn value(item: &Event, alloc: Global) -> Result<Value, AllocError> {
+        let members = event_members(alloc, item)?;
         Ok(Value::Object(members))
     }
 
-    ghost holds_none = { inl refl };
+    ghost holds_none = { λ size. inl refl };
 
-    ghost holds_no_list = { inl refl };
+    ghost holds_no_list = { λ size. inl refl };
 }
 
-impl Item for u16 {
+impl Kind for Numbers {
     ghost use Rattle.std.proofs.Common.{◌≡◌, ◌++◌, ◌∷◌, [], ℕ, List, map, IfOk, refl, inl};
     ghost use Rattle.recorder.specs.Held.{HoldsLists};
     ghost use Rattle.recorder.specs.Text.{number_data};
     ghost use Rattle.recorder.specs.Clipped.{clipped_number};
-    ghost use Rattle.recorder.specs.Written.{IsShort};
+    ghost use Rattle.recorder.specs.Written.{IsWord};
+
+    type Item = EventId;
 
     ghost datum = { number_data };
 
     ghost held = { clipped_number };
 
-    ghost fits = { IsShort };
+    ghost fits = { IsWord };
 
-    ghost holds = { λ held items. held ≡ items };
+    ghost holds = { λ size held items. held ≡ items };
 
     ghost holds_lists = { HoldsLists };
 
-    fn take(rest: &mut Cursor<'_>) -> Option<u16> {
-        rest.short()
+    fn take(rest: &mut Cursor<'_>) -> Option<EventId> {
+        rest.word()
     }
 
-    fn pull(reader: &mut Reader<'_>) -> Option<u16> {
+    fn pull(reader: &mut Reader<'_>) -> Option<EventId> {
         pull_number(reader)
     }
 
-    fn hold(found: &mut Vec<u16>, item: u16) -> Result<(), AllocError> {
+    fn hold(
+        found: &mut Vec<EventId>,
+        item: EventId,
+        _size: RecordingSize,
+    ) -> Result<(), AllocError> {
         found.push(item)?;
         Ok(())
     }
 
     /// Of those that are too many the first is held.
-    fn hold_list(found: &mut Vec<Vec<u16>>, list: Vec<u16>) -> Result<(), AllocError>
+    fn hold_list(
+        found: &mut Vec<Vec<EventId>>,
+        list: Vec<EventId>,
+        size: RecordingSize,
+    ) -> Result<(), AllocError>
         ensures { IfOk result (λ _. (lists : List (List ℕ)) (items : List ℕ)
-            → HoldsLists (map (λ v. v.items) found.old.items) lists → list.items ≡ items
-            → HoldsLists (map (λ v. v.items) found.new.items) (lists ++ items ∷ [])) }
+            → HoldsLists size (map (λ v. v.items) found.old.items) lists → list.items ≡ items
+            → HoldsLists size (map (λ v. v.items) found.new.items) (lists ++ items ∷ [])) }
     {
-        if found.len() <= MAX_ADDRESSES {
+        if found.len() <= size.addresses() {
             found.push(list)?;
         }
         Ok(())
     }
 
-    fn read(value: &Value) -> Option<u16> {
+    fn read(value: &Value) -> Option<EventId> {
         let n = value.as_u64()?;
-        Some(u16::try_from(n).unwrap_or(u16::MAX))
+        Some(u32::try_from(n).unwrap_or(u32::MAX))
     }
 
-    fn value(&self, _alloc: Global) -> Result<Value, AllocError> {
-        Ok(Value::from(*self))
+    fn value(item: &EventId, _alloc: Global) -> Result<Value, AllocError> {
+        Ok(Value::from(*item))
     }
 
-    ghost holds_none = { refl };
+    ghost holds_none = { λ size. refl };
 
-    ghost holds_no_list = { inl refl };
+    ghost holds_no_list = { λ size. inl refl };
 }
 
-impl Item for u32 {
+impl Kind for Values {
     ghost use Rattle.std.specs.Prelude.{◌≡◌, ◌++◌, ◌∷◌, [], ℕ, List, map, IfOk, refl};
     ghost use Rattle.recorder.specs.Text.{number_data};
     ghost use Rattle.recorder.specs.Reading.{value_in};
     ghost use Rattle.recorder.specs.Written.{IsWord};
+
+    type Item = u32;
 
     ghost datum = { number_data };
 
@@ -213,9 +254,9 @@ impl Item for u32 {
 
     ghost fits = { IsWord };
 
-    ghost holds = { λ held items. held ≡ items };
+    ghost holds = { λ size held items. held ≡ items };
 
-    ghost holds_lists = { λ held lists. held ≡ lists };
+    ghost holds_lists = { λ size held lists. held ≡ lists };
 
     fn take(rest: &mut Cursor<'_>) -> Option<u32> {
         rest.word()
@@ -225,12 +266,16 @@ impl Item for u32 {
         pull_value(reader)
     }
 
-    fn hold(found: &mut Vec<u32>, item: u32) -> Result<(), AllocError> {
+    fn hold(found: &mut Vec<u32>, item: u32, _size: RecordingSize) -> Result<(), AllocError> {
         found.push(item)?;
         Ok(())
     }
 
-    fn hold_list(found: &mut Vec<Vec<u32>>, list: Vec<u32>) -> Result<(), AllocError>
+    fn hold_list(
+        found: &mut Vec<Vec<u32>>,
+        list: Vec<u32>,
+        _size: RecordingSize,
+    ) -> Result<(), AllocError>
         ensures { IfOk result (λ _. (lists : List (List ℕ)) (items : List ℕ)
             → map (λ v. v.items) found.old.items ≡ lists → list.items ≡ items
             → map (λ v. v.items) found.new.items ≡ lists ++ items ∷ []) }
@@ -243,32 +288,32 @@ impl Item for u32 {
         u32::try_from(value.as_u64()?).ok()
     }
 
-    fn value(&self, _alloc: Global) -> Result<Value, AllocError> {
-        Ok(Value::from(*self))
+    fn value(item: &u32, _alloc: Global) -> Result<Value, AllocError> {
+        Ok(Value::from(*item))
     }
 
-    ghost holds_none = { refl };
+    ghost holds_none = { λ size. refl };
 
-    ghost holds_no_list = { refl };
+    ghost holds_no_list = { λ size. refl };
 }
 
-fn source_in(value: &Value) -> Option<Option<u16>>
+fn source_in(value: &Value) -> Option<Option<EventId>>
     ensures { result ≡ clipped_source (view value.now) }
 {
     if value.is_null() {
         return Some(None);
     }
-    let source = u16::read(value)?;
+    let source = Numbers::read(value)?;
     Some(Some(source))
 }
 
-fn read_at<T: Item>(value: &Value, key: &str) -> Option<T>
-    ensures { result ≡ at_key T.held key.now (view value.now) }
+fn read_at<K: Kind>(value: &Value, key: &str) -> Option<K::Item>
+    ensures { result ≡ at_key K.held key.now (view value.now) }
 {
-    T::read(value.get(key)?)
+    K::read(value.get(key)?)
 }
 
-fn source_at(value: &Value, key: &str) -> Option<Option<u16>>
+fn source_at(value: &Value, key: &str) -> Option<Option<EventId>>
     ensures { result ≡ at_key clipped_source key.now (view value.now) }
 {
     source_in(value.get(key)?)
@@ -289,10 +334,10 @@ fn event_in(value: &Value) -> Option<Event>
     let kind = value.get("k")?.as_str()?;
     let fields = Fields {
         k: Some(kind),
-        a: read_at(value, "a"),
-        r: read_at(value, "r"),
+        a: read_at::<Numbers>(value, "a"),
+        r: read_at::<Values>(value, "r"),
         s: source_at(value, "s"),
-        w: read_at(value, "w"),
+        w: read_at::<Values>(value, "w"),
     };
     fields.event(keys)
 }

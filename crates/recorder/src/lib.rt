@@ -9,6 +9,6 @@ mod values;
 mod versions;
 mod written;
 
-pub use reading::read_recording;
-pub use recording::{Event, RecError, Recording};
+pub use reading::{read_recording, read_recording_of};
+pub use recording::{Event, RecError, Recording, RecordingSize};
 pub use text::write_recording;

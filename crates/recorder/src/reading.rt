@@ -5,17 +5,18 @@ ghost use Rattle.serde_json.specs.View.{view, items_view};
 ghost use Rattle.recorder.specs.ParsedModel.{initial_values, IsVersioned};
 ghost use Rattle.recorder.specs.ParsedModel.{model_of};
 ghost use Rattle.recorder.specs.ReadMembers.{IsParsedFrom};
-ghost use Rattle.recorder.specs.Reading.{each, natural, list_in, at_key, shape_in, IsReadingResult};
+ghost use Rattle.recording.specs.declared.size.RecordingSize.{RecordingSize};
+ghost use Rattle.recorder.specs.Reading.{each, natural, list_in, at_key, shape_in, IsReadingOf, IsReadingResult};
 ghost use Rattle.recorder.specs.Reading.{IsValuesAlone};
 ghost use Rattle.recorder.specs.Text.{IsReadAs};
 ghost use Rattle.recorder.specs.Clipped.{clipped_shape};
 
-use crate::items::{Item, keys_of};
+use crate::items::{Events, Kind, Numbers, Values, keys_of};
 use crate::tokens::{ReadMembers, parsed_by_tokens};
 use crate::versions::has_failed_cas;
 use crate::written::written;
 use common::EventId;
-use recording::{Event, RecError, Recording};
+use recording::{Event, RecError, Recording, RecordingSize};
 use serde_json::Value;
 use std::alloc::{AllocError, Global};
 
@@ -41,12 +42,12 @@ impl Parsed {
     }
 }
 
-fn items_in<T: Item>(alloc: Global, list: &[Value]) -> Result<Option<Vec<T>>, AllocError>
-    ensures { IfOk result (λ o. option_map (λ v. v.items) o ≡ each T.held (items_view list.now)) }
+fn items_in<K: Kind>(alloc: Global, list: &[Value]) -> Result<Option<Vec<K::Item>>, AllocError>
+    ensures { IfOk result (λ o. option_map (λ v. v.items) o ≡ each K.held (items_view list.now)) }
 {
     let mut found = Vec::new(alloc);
     for value in list {
-        let Some(item) = T::read(value) else {
+        let Some(item) = K::read(value) else {
             return Ok(None);
         };
         found.push(item)?;
@@ -54,22 +55,22 @@ fn items_in<T: Item>(alloc: Global, list: &[Value]) -> Result<Option<Vec<T>>, Al
     Ok(Some(found))
 }
 
-fn list_in<T: Item>(alloc: Global, value: &Value) -> Result<Option<Vec<T>>, AllocError>
-    ensures { IfOk result (λ o. option_map (λ v. v.items) o ≡ list_in T.held (view value.now)) }
+fn list_in<K: Kind>(alloc: Global, value: &Value) -> Result<Option<Vec<K::Item>>, AllocError>
+    ensures { IfOk result (λ o. option_map (λ v. v.items) o ≡ list_in K.held (view value.now)) }
 {
     let Some(list) = value.as_array() else {
         return Ok(None);
     };
-    items_in(alloc, list.as_slice())
+    items_in::<K>(alloc, list.as_slice())
 }
 
-fn lists_in<T: Item>(alloc: Global, list: &[Value]) -> Result<Option<Vec<Vec<T>>>, AllocError>
+fn lists_in<K: Kind>(alloc: Global, list: &[Value]) -> Result<Option<Vec<Vec<K::Item>>>, AllocError>
     ensures { IfOk result (λ o. option_map (λ v. map (λ w. w.items) v.items) o
-        ≡ each (list_in T.held) (items_view list.now)) }
+        ≡ each (list_in K.held) (items_view list.now)) }
 {
     let mut found = Vec::new(alloc);
     for value in list {
-        let Some(items) = list_in(alloc, value)? else {
+        let Some(items) = list_in::<K>(alloc, value)? else {
             return Ok(None);
         };
         found.push(items)?;
@@ -77,18 +78,18 @@ fn lists_in<T: Item>(alloc: Global, list: &[Value]) -> Result<Option<Vec<Vec<T>>
     Ok(Some(found))
 }
 
-fn lists_at<T: Item>(
+fn lists_at<K: Kind>(
     alloc: Global,
     value: &Value,
     key: &str,
-) -> Result<Option<Vec<Vec<T>>>, AllocError>
+) -> Result<Option<Vec<Vec<K::Item>>>, AllocError>
     ensures { IfOk result (λ o. option_map (λ v. map (λ w. w.items) v.items) o
-        ≡ at_key (list_in (list_in T.held)) key.now (view value.now)) }
+        ≡ at_key (list_in (list_in K.held)) key.now (view value.now)) }
 {
     let Some(list) = value.get(key).and_then(Value::as_array) else {
         return Ok(None);
     };
-    lists_in(alloc, list.as_slice())
+    lists_in::<K>(alloc, list.as_slice())
 }
 
 fn natural_at(value: &Value, key: &str) -> Option<u64>
@@ -97,13 +98,17 @@ fn natural_at(value: &Value, key: &str) -> Option<u64>
     value.get(key)?.as_u64()
 }
 
-fn list_at<T: Item>(alloc: Global, value: &Value, key: &str) -> Result<Option<Vec<T>>, AllocError>
-    ensures { IfOk result (λ o. option_map (λ v. v.items) o ≡ at_key (list_in T.held) key.now (view value.now)) }
+fn list_at<K: Kind>(
+    alloc: Global,
+    value: &Value,
+    key: &str,
+) -> Result<Option<Vec<K::Item>>, AllocError>
+    ensures { IfOk result (λ o. option_map (λ v. v.items) o ≡ at_key (list_in K.held) key.now (view value.now)) }
 {
     let Some(list) = value.get(key) else {
         return Ok(None);
     };
-    list_in(alloc, list)
+    list_in::<K>(alloc, list)
 }
 
 #[tactic(auto, unfolding(crate::specs::Reading::shape_in))]
@@ -115,9 +120,9 @@ fn shape_in(alloc: Global, value: &Value) -> Result<Option<Parsed>, AllocError>
     };
     let read_members = ReadMembers {
         version: natural_at(value, "version"),
-        cores: lists_at(alloc, value, "cores")?,
-        writes: lists_at(alloc, value, "writes")?,
-        init: list_at(alloc, value, "init")?,
+        cores: lists_at::<Events>(alloc, value, "cores")?,
+        writes: lists_at::<Numbers>(alloc, value, "writes")?,
+        init: list_at::<Values>(alloc, value, "init")?,
     };
     Ok(read_members.found(keys))
 }
@@ -153,7 +158,7 @@ fn is_values_alone(value: &Value) -> bool
 /// The whole value of a text, or that it is no JSON, or that memory ran out.
 fn tree_of(alloc: Global, bytes: &[u8]) -> Result<Value, RecError>
     ensures tree { IfOk result (λ v. IsReadAs bytes.now (view v)) }
-    ensures err { IfErr result (λ e. IsReadingResult bytes.now (Err e)) }
+    ensures err { IfErr result (λ e. (size : RecordingSize) → IsReadingOf size bytes.now (Err e)) }
 {
     match Value::from_slice(alloc, bytes) {
         Ok(value) => Ok(value),
@@ -168,8 +173,8 @@ fn tree_of(alloc: Global, bytes: &[u8]) -> Result<Value, RecError>
 /// The contents of a text by its whole value, or the first refusal of the JSON and its shape. Else it fails
 /// only if out of memory.
 fn parsed_in_tree(alloc: Global, bytes: &[u8]) -> Result<Parsed, RecError>
-    ensures found { IfOk result (λ q. IsParsedFrom bytes.now q) }
-    ensures err { IfErr result (λ e. IsReadingResult bytes.now (Err e)) }
+    ensures found { IfOk result (λ q. (size : RecordingSize) → IsParsedFrom size bytes.now q) }
+    ensures err { IfErr result (λ e. (size : RecordingSize) → IsReadingOf size bytes.now (Err e)) }
 {
     let value = tree_of(alloc, bytes)?;
     let Ok(found) = shape_in(alloc, &value) else {
@@ -184,10 +189,10 @@ fn parsed_in_tree(alloc: Global, bytes: &[u8]) -> Result<Parsed, RecError>
     Err(RecError::Shape)
 }
 
-/// The recording of these contents, or the first refusal of the version, and what `Recording::from_parts`
-/// refuses, or that memory ran out.
-fn recording_of(alloc: Global, contents: Parsed) -> Result<Recording, RecError>
-    ensures { (bytes : List ℕ) → IsParsedFrom bytes contents → IsReadingResult bytes result }
+/// The recording of a size of these contents, or the first refusal of the version, and what
+/// `Recording::from_parts` refuses, or that memory ran out.
+fn recording_of(alloc: Global, contents: Parsed, size: RecordingSize) -> Result<Recording, RecError>
+    ensures { (bytes : List ℕ) → IsParsedFrom size bytes contents → IsReadingOf size bytes result }
 {
     if !contents.is_versioned() {
         return Err(RecError::Version);
@@ -201,26 +206,42 @@ fn recording_of(alloc: Global, contents: Parsed) -> Result<Recording, RecError>
     let Ok(init) = initial_values(alloc, init, writes.as_slice()) else {
         return Err(RecError::OutOfMemory);
     };
-    Recording::from_parts(cores, writes, init)
+    let Ok(read) = Recording::from_parts(alloc, size, cores, writes, init) else {
+        return Err(RecError::OutOfMemory);
+    };
+    read
 }
 
-/// The recording that the bytes give, or the first refusal: of the JSON, its shape, the version, and what
+/// The recording of a size that the bytes give, or the first refusal: of the JSON, its shape, the version, and what
 /// `Recording::from_parts` refuses, or that memory ran out.
-pub fn read_recording(alloc: Global, bytes: &[u8]) -> Result<Recording, RecError>
-    ensures { IsReadingResult bytes.now result }
+pub fn read_recording_of(
+    alloc: Global,
+    bytes: &[u8],
+    size: RecordingSize,
+) -> Result<Recording, RecError>
+    ensures { IsReadingOf size bytes.now result }
 {
-    let Ok(written) = written(alloc, bytes) else {
+    let Ok(written) = written(alloc, bytes, size) else {
         return Err(RecError::OutOfMemory);
     };
     if let Some(found) = written {
-        return recording_of(alloc, found);
+        return recording_of(alloc, found, size);
     }
-    let Ok(parsed) = parsed_by_tokens(alloc, bytes) else {
+    let Ok(parsed) = parsed_by_tokens(alloc, bytes, size) else {
         return Err(RecError::OutOfMemory);
     };
     if let Some(found) = parsed {
-        return recording_of(alloc, found);
+        return recording_of(alloc, found, size);
     }
-    let found = parsed_in_tree(alloc, bytes)?;
-    recording_of(alloc, found)
+    match parsed_in_tree(alloc, bytes) {
+        Ok(found) => recording_of(alloc, found, size),
+        Err(refusal) => Err(refusal),
+    }
+}
+
+/// What `read_recording_of` answers of recordings that are no larger than a program.
+pub fn read_recording(alloc: Global, bytes: &[u8]) -> Result<Recording, RecError>
+    ensures { IsReadingResult bytes.now result }
+{
+    read_recording_of(alloc, bytes, RecordingSize::Short)
 }

@@ -2,6 +2,7 @@
 //! quarters of the tree's instructions.
 
 ghost use Rattle.std.specs.Prelude.{◌≡◌, ◌+◌, ℕ, suc, [], IfOk, IfSome, option_map, map};
+ghost use Rattle.recording.specs.declared.size.RecordingSize.{RecordingSize};
 ghost use Rattle.serde_json.specs.Data.{no_members};
 ghost use Rattle.serde_json.specs.Read.{max_depth};
 ghost use Rattle.recorder.specs.ParsedModel.{ParsedModel};
@@ -16,13 +17,14 @@ pub(crate) mod events;
 mod lists;
 pub(crate) mod values;
 
+use crate::items::{Events, Numbers, Values};
 use crate::reading::Parsed;
 use crate::tokens::events::once;
 use crate::tokens::lists::{pull_list, pull_lists};
 use crate::tokens::values::{begins_object, pull_natural};
 use common::EventId;
 use json::{Reader, Scratch};
-use recording::Event;
+use recording::{Event, RecordingSize};
 use std::alloc::{AllocError, Global};
 
 /// The members that were read of a recording.
@@ -36,7 +38,7 @@ pub(crate) struct ReadMembers {
 
 impl ReadMembers {
     fn new() -> ReadMembers
-        ensures { AreParts result no_members }
+        ensures { (size : RecordingSize) → AreParts size result no_members }
     {
         ReadMembers {
             version: None,
@@ -52,15 +54,19 @@ impl ReadMembers {
         alloc: Global,
         key: &str,
         reader: &mut Reader<'_>,
+        size: RecordingSize,
     ) -> Result<Option<()>, AllocError>
         ensures { IfOk result (λ o. IfSome o (λ _. (depth : ℕ)
-            → Adds AreParts key.now (suc (suc (suc depth))) reader.old reader.new self.old self.new)) }
+            → Adds (AreParts size) key.now (suc (suc (suc depth))) reader.old reader.new self.old self.new)) }
     {
         match key {
             "version" => Ok(once(&mut self.version, pull_natural(reader))),
-            "cores" => Ok(once(&mut self.cores, pull_lists(alloc, reader)?)),
-            "writes" => Ok(once(&mut self.writes, pull_lists(alloc, reader)?)),
-            "init" => Ok(once(&mut self.init, pull_list(alloc, reader)?)),
+            "cores" => Ok(once(&mut self.cores, pull_lists::<Events>(alloc, reader, size)?)),
+            "writes" => Ok(once(
+                &mut self.writes,
+                pull_lists::<Numbers>(alloc, reader, size)?,
+            )),
+            "init" => Ok(once(&mut self.init, pull_list::<Values>(alloc, reader, size)?)),
             _ => Ok(None),
         }
     }
@@ -104,9 +110,13 @@ impl ReadMembers {
 }
 
 /// The members of an object that has begun.
-fn pull_members(alloc: Global, reader: &mut Reader<'_>) -> Result<Option<ReadMembers>, AllocError>
+fn pull_members(
+    alloc: Global,
+    reader: &mut Reader<'_>,
+    size: RecordingSize,
+) -> Result<Option<ReadMembers>, AllocError>
     ensures { IfOk result (λ o. IfSome o (λ p. (depth : ℕ)
-        → GivesMembers AreParts (suc (suc (suc depth))) reader.old reader.new p)) }
+        → GivesMembers (AreParts size) (suc (suc (suc depth))) reader.old reader.new p)) }
 {
     let mut read_members = ReadMembers::new();
     'members: loop {
@@ -116,20 +126,24 @@ fn pull_members(alloc: Global, reader: &mut Reader<'_>) -> Result<Option<ReadMem
         let Some(key) = key else {
             return Ok(Some(read_members));
         };
-        let Some(()) = read_members.pull(alloc, key, reader)? else {
+        let Some(()) = read_members.pull(alloc, key, reader, size)? else {
             return Ok(None);
         };
     }
 }
 
-fn pull_parsed(alloc: Global, reader: &mut Reader<'_>) -> Result<Option<Parsed>, AllocError>
+fn pull_parsed(
+    alloc: Global,
+    reader: &mut Reader<'_>,
+    size: RecordingSize,
+) -> Result<Option<Parsed>, AllocError>
     ensures { IfOk result (λ o. IfSome o (λ q. (c : ParsedModel)
-        × GivesValue clipped_contents max_depth reader.old c [] × StandsFor (model_of q) c)) }
+        × GivesValue clipped_contents max_depth reader.old c [] × StandsFor size (model_of q) c)) }
 {
     if !begins_object(reader) {
         return Ok(None);
     }
-    let Some(read_members) = pull_members(alloc, reader)? else {
+    let Some(read_members) = pull_members(alloc, reader, size)? else {
         return Ok(None);
     };
     let None = reader.next() else {
@@ -140,14 +154,18 @@ fn pull_parsed(alloc: Global, reader: &mut Reader<'_>) -> Result<Option<Parsed>,
 }
 
 /// What a text in the simplest form has; of other texts it answers nothing.
-pub(crate) fn parsed_by_tokens(alloc: Global, bytes: &[u8]) -> Result<Option<Parsed>, AllocError>
-    ensures { IfOk result (λ o. IfSome o (λ q. IsParsedFrom bytes.now q)) }
+pub(crate) fn parsed_by_tokens(
+    alloc: Global,
+    bytes: &[u8],
+    size: RecordingSize,
+) -> Result<Option<Parsed>, AllocError>
+    ensures { IfOk result (λ o. IfSome o (λ q. IsParsedFrom size bytes.now q)) }
 {
     let Ok(text) = str::from_utf8(bytes) else {
         return Ok(None);
     };
     let mut scratch = Scratch::new(alloc);
     let mut reader = Reader::new(text, &mut scratch)?;
-    let found = pull_parsed(alloc, &mut reader)?;
+    let found = pull_parsed(alloc, &mut reader, size)?;
     Ok(found)
 }

@@ -4,10 +4,10 @@ ghost use Rattle.std.specs.Prelude.{◌≡◌, IfOk, None, Some, map};
 ghost use Rattle.std.specs.List.{AllByRecursion};
 ghost use Rattle.serde_json.specs.Data.{put, string, object};
 ghost use Rattle.serde_json.specs.View.{view, members_view};
-ghost use Rattle.recorder.specs.Written.{IsShortSource, IsFitting, AreFitting};
+ghost use Rattle.recorder.specs.Written.{IsWordSource, IsFitting, AreFitting};
 ghost use Rattle.recorder.specs.Text.{list_data, source_data, members, read_members, event_data, values_of, data_of};
 
-use crate::items::Item;
+use crate::items::{Events, Kind, Numbers, Values};
 use crate::versions::is_of_version_1;
 use common::{Addr, EventId};
 use recording::{Event, Recording};
@@ -43,7 +43,7 @@ fn with_text(
 
 fn source_value(source: Option<EventId>) -> Value
     ensures value { view result ≡ source_data source }
-    ensures fits { IsShortSource source }
+    ensures fits { IsWordSource source }
 {
     match source {
         Some(write) => Value::from(write),
@@ -60,7 +60,7 @@ fn read_members(
     s: Option<EventId>,
 ) -> Result<Map<String, Value>, AllocError>
     ensures value { IfOk result (λ m. members_view m.entries ≡ members (read_members kind.now a r s)) }
-    ensures fits { IfOk result (λ _. IsShortSource s) }
+    ensures fits { IfOk result (λ _. IsWordSource s) }
 {
     let members = with(alloc, Map::new(alloc), "a", Value::from(a))?;
     let members = with_text(alloc, members, "k", kind)?;
@@ -89,25 +89,25 @@ pub(crate) fn event_members(alloc: Global, event: &Event) -> Result<Map<String, 
     }
 }
 
-fn list_value<T: Item>(alloc: Global, items: &[T]) -> Result<Value, AllocError>
-    ensures value { IfOk result (λ v. view v ≡ list_data T.datum items.now) }
-    ensures fits { IfOk result (λ _. AllByRecursion T.fits items.now) }
+fn list_value<K: Kind>(alloc: Global, items: &[K::Item]) -> Result<Value, AllocError>
+    ensures value { IfOk result (λ v. view v ≡ list_data K.datum items.now) }
+    ensures fits { IfOk result (λ _. AllByRecursion K.fits items.now) }
 {
     let mut values = Vec::with_capacity(alloc, items.len())?;
     for item in items {
-        values.push(item.value(alloc)?)?;
+        values.push(K::value(item, alloc)?)?;
     }
     Ok(Value::Array(values))
 }
 
-fn lists_value<T: Item>(alloc: Global, lists: &[Vec<T>]) -> Result<Value, AllocError>
+fn lists_value<K: Kind>(alloc: Global, lists: &[Vec<K::Item>]) -> Result<Value, AllocError>
     ensures value { IfOk result (λ v. view v
-        ≡ list_data (list_data T.datum) (map (λ w. w.items) lists.now)) }
-    ensures fits { IfOk result (λ _. AllByRecursion (AllByRecursion T.fits) (map (λ w. w.items) lists.now)) }
+        ≡ list_data (list_data K.datum) (map (λ w. w.items) lists.now)) }
+    ensures fits { IfOk result (λ _. AllByRecursion (AllByRecursion K.fits) (map (λ w. w.items) lists.now)) }
 {
     let mut values = Vec::with_capacity(alloc, lists.len())?;
     for list in lists {
-        values.push(list_value(alloc, list.as_slice())?)?;
+        values.push(list_value::<K>(alloc, list.as_slice())?)?;
     }
     Ok(Value::Array(values))
 }
@@ -117,15 +117,15 @@ pub(crate) fn value_of(alloc: Global, recording: &Recording) -> Result<Value, Al
     ensures fits { IfOk result (λ _. AreFitting (values_of recording.now) recording.now.cores
         recording.now.write_lists) }
 {
-    let cores = lists_value(alloc, recording.cores())?;
+    let cores = lists_value::<Events>(alloc, recording.cores())?;
     let members = with(alloc, Map::new(alloc), "cores", cores)?;
-    let writes = lists_value(alloc, recording.writes())?;
+    let writes = lists_value::<Numbers>(alloc, recording.writes())?;
     let members = with(alloc, members, "writes", writes)?;
     if is_of_version_1(recording) {
         let members = with(alloc, members, "version", Value::from(1u64))?;
         return Ok(Value::Object(members));
     }
-    let init = list_value(alloc, recording.init())?;
+    let init = list_value::<Values>(alloc, recording.init())?;
     let members = with(alloc, members, "init", init)?;
     let members = with(alloc, members, "version", Value::from(2u64))?;
     Ok(Value::Object(members))

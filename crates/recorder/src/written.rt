@@ -10,14 +10,19 @@ pub(crate) mod cursor;
 pub(crate) mod events;
 mod lists;
 
+use crate::items::{Events, Numbers, Values};
 use crate::reading::Parsed;
 use crate::written::cursor::Cursor;
 use crate::written::lists::{take_list, take_lists};
-use common::{MAX_ADDRESSES, MAX_CORES};
+use recording::RecordingSize;
 use std::alloc::{AllocError, Global};
 
 /// Takes the version and, before it, the initial values, where the text has them.
-fn take_init(alloc: Global, rest: &mut Cursor<'_>) -> Result<Option<Option<Vec<u32>>>, AllocError>
+fn take_init(
+    alloc: Global,
+    rest: &mut Cursor<'_>,
+    size: RecordingSize,
+) -> Result<Option<Option<Vec<u32>>>, AllocError>
     ensures { IfOk result (λ o. IfSome o (λ v. IsHead rest.old (option_map (λ w. w.items) v) rest.new)) }
 {
     if rest.take(b",\"version\":1") {
@@ -26,7 +31,7 @@ fn take_init(alloc: Global, rest: &mut Cursor<'_>) -> Result<Option<Option<Vec<u
     if !rest.take(b",\"init\":") {
         return Ok(None);
     }
-    let Some(values) = take_list(alloc, rest, MAX_ADDRESSES)? else {
+    let Some(values) = take_list::<Values>(alloc, rest, size.addresses())? else {
         return Ok(None);
     };
     if !rest.take(b",\"version\":2") {
@@ -45,22 +50,26 @@ fn version_of(init: &Option<Vec<u32>>) -> u64
 }
 
 /// Takes the contents of a recording.
-fn take_found(alloc: Global, rest: &mut Cursor<'_>) -> Result<Option<Parsed>, AllocError>
+fn take_found(
+    alloc: Global,
+    rest: &mut Cursor<'_>,
+    size: RecordingSize,
+) -> Result<Option<Parsed>, AllocError>
     ensures { IfOk result (λ o. IfSome o (λ q. BeginsRecording rest.old (model_of q) rest.new)) }
 {
     if !rest.take(b"{\"cores\":") {
         return Ok(None);
     }
-    let Some(cores) = take_lists(alloc, rest, MAX_CORES)? else {
+    let Some(cores) = take_lists::<Events>(alloc, rest, size.cores(), size.events())? else {
         return Ok(None);
     };
-    let Some(init) = take_init(alloc, rest)? else {
+    let Some(init) = take_init(alloc, rest, size)? else {
         return Ok(None);
     };
     if !rest.take(b",\"writes\":") {
         return Ok(None);
     }
-    let Some(writes) = take_lists(alloc, rest, MAX_ADDRESSES)? else {
+    let Some(writes) = take_lists::<Numbers>(alloc, rest, size.addresses(), size.events())? else {
         return Ok(None);
     };
     if !rest.take(b"}") {
@@ -75,15 +84,19 @@ fn take_found(alloc: Global, rest: &mut Cursor<'_>) -> Result<Option<Parsed>, Al
     }))
 }
 
-/// What a text in the layout of `write_recording` has, within the limits; of other texts it answers nothing.
-pub(crate) fn written(alloc: Global, bytes: &[u8]) -> Result<Option<Parsed>, AllocError>
-    ensures { IfOk result (λ o. IfSome o (λ q. IsParsedFrom bytes.now q)) }
+/// What a text in the layout of `write_recording` has, within the limits of a size; of other texts it answers nothing.
+pub(crate) fn written(
+    alloc: Global,
+    bytes: &[u8],
+    size: RecordingSize,
+) -> Result<Option<Parsed>, AllocError>
+    ensures { IfOk result (λ o. IfSome o (λ q. IsParsedFrom size bytes.now q)) }
 {
     let Ok(_text) = str::from_utf8(bytes) else {
         return Ok(None);
     };
     let mut rest = Cursor::new(bytes);
-    let Some(found) = take_found(alloc, &mut rest)? else {
+    let Some(found) = take_found(alloc, &mut rest, size)? else {
         return Ok(None);
     };
     if !rest.is_at_end() {

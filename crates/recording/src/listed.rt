@@ -1,22 +1,25 @@
 //! The write lists of parts of a recording, which may break its rules.
 
 use crate::numbered::Numbered;
-use common::{Addr, EventId, MAX_EVENTS};
+use common::{Addr, EventId, OutOfMemory};
+use std::alloc::Global;
 
 impl<'p> Numbered<'p> {
-    ghost use Rattle.std.specs.Prelude.{◌≡◌, ◌↔◌, ◌<◌, ◌≤◌, ℕ, IsTrue, false, length};
-    ghost use Rattle.common.specs.declared.limits.TheConstants.{MAX_EVENTS};
+    ghost use Rattle.std.specs.Prelude.{◌≡◌, ◌↔◌, ◌<◌, ◌≤◌, ℕ, IsTrue, IfOk, false, length};
+    ghost use Rattle.common.specs.declared.limits.TheConstants.{MAX_RECORDED_EVENTS};
     ghost use Rattle.recording.specs.Execution.{event_count, write_list, Writes};
     ghost use Rattle.recording.specs.Order.{times};
     ghost use Rattle.recording.specs.Listed.{is_marked, AreMarked, ListsEachWrite, ListsWritesOnce};
     ghost use Rattle.recording.specs.Recording.{IsWithinLimits};
+    ghost use Rattle.recording.specs.declared.size.RecordingSize.TheVariants.{Long};
     ghost use Rattle.recording.specs.Refusals.{HasWriteList};
 
     /// Whether each number in the write list of an address writes it and stands once. Then its numbers are
     /// the marked writes of the address.
-    fn lists_writes_once(&self, address: Addr, marks: &mut [bool; MAX_EVENTS]) -> bool
-        requires few_events { event_count self.now ≤ MAX_EVENTS }
+    fn lists_writes_once(&self, address: Addr, marks: &mut [bool]) -> bool
+        requires size { length marks.old ≡ event_count self.now }
         requires unmarked { (e : ℕ) → Writes self.now e address → is_marked marks.old e ≡ false }
+        ensures size { length marks.new ≡ length marks.old }
         ensures once { IsTrue result ↔ ListsWritesOnce self.now address }
         ensures marked { IsTrue result → (e : ℕ) → Writes self.now e address
             → IsTrue (is_marked marks.new e) ↔ (0 < times (write_list self.now address) e) }
@@ -39,9 +42,11 @@ impl<'p> Numbered<'p> {
 
     /// How many write lists from the first have writes of their addresses alone, each once. What stands in
     /// them gets marked.
-    fn first_lists_once(&self, marks: &mut [bool; MAX_EVENTS]) -> usize
-        requires within { IsWithinLimits self.now }
+    fn first_lists_once(&self, marks: &mut [bool]) -> usize
+        requires within { IsWithinLimits Long self.now }
+        requires size { length marks.old ≡ event_count self.now }
         requires unmarked { (e : ℕ) → is_marked marks.old e ≡ false }
+        ensures size { length marks.new ≡ length marks.old }
         ensures there { result ≤ length self.now.write_lists }
         ensures once { (a : ℕ) → a < result → ListsWritesOnce self.now a }
         ensures last { result < length self.now.write_lists → ¬ ListsWritesOnce self.now result }
@@ -57,8 +62,8 @@ impl<'p> Numbered<'p> {
     }
 
     /// The address that an unmarked event writes, where it is below a count; else the count.
-    fn unmarked_below(&self, number: EventId, marks: &[bool; MAX_EVENTS], count: usize) -> usize
-        requires here { number < MAX_EVENTS }
+    fn unmarked_below(&self, number: EventId, marks: &[bool], count: usize) -> usize
+        requires here { number < length marks.now }
         ensures bound { result ≤ count }
         ensures least { (a : ℕ) → Writes self.now number a → a < result
             → IsTrue (is_marked marks.now number) }
@@ -75,8 +80,9 @@ impl<'p> Numbered<'p> {
     }
 
     /// How many of the first lists, as many of which are marked, have each write of their addresses.
-    fn first_lists_whole(&self, marks: &[bool; MAX_EVENTS], count: usize) -> usize
-        requires few_events { event_count self.now ≤ MAX_EVENTS }
+    fn first_lists_whole(&self, marks: &[bool], count: usize) -> usize
+        requires few_events { event_count self.now ≤ MAX_RECORDED_EVENTS }
+        requires size { length marks.now ≡ event_count self.now }
         requires marked { AreMarked self.now count marks.now }
         ensures bound { result ≤ count }
         ensures whole { (a : ℕ) → a < result → ListsEachWrite self.now a }
@@ -90,14 +96,14 @@ impl<'p> Numbered<'p> {
     }
 
     /// How many write lists from the first have each write of their addresses once and nothing else.
-    pub(crate) fn first_lists_right(&self) -> usize
-        requires { IsWithinLimits self.now }
-        ensures there { result ≤ length self.now.write_lists }
-        ensures right { (a : ℕ) → a < result → HasWriteList self.now a }
-        ensures last { result < length self.now.write_lists → ¬ HasWriteList self.now result }
+    pub(crate) fn first_lists_right(&self, alloc: Global) -> Result<usize, OutOfMemory>
+        requires { IsWithinLimits Long self.now }
+        ensures there { IfOk result (λ n. n ≤ length self.now.write_lists) }
+        ensures right { IfOk result (λ n. (a : ℕ) → a < n → HasWriteList self.now a) }
+        ensures last { IfOk result (λ n. n < length self.now.write_lists → ¬ HasWriteList self.now n) }
     {
-        let mut marks = [false; MAX_EVENTS];
+        let mut marks = vec![in alloc; false; self.len()]?;
         let once = self.first_lists_once(&mut marks);
-        self.first_lists_whole(&marks, once)
+        Ok(self.first_lists_whole(&marks, once))
     }
 }

@@ -3,11 +3,13 @@
 use crate::event::Event;
 use crate::fault::RecError;
 use crate::parts::RecordingParts;
-use common::{Addr, CoreId, EventId};
+use crate::size::RecordingSize;
+use common::{Addr, CoreId, EventId, OutOfMemory};
+use std::alloc::Global;
 use std::marker::Model;
 
 /// A recording: the events of each core in program order, and for each address its writes in memory order
-/// and its initial value.
+/// and its initial value. It has no more cores, events and addresses than `RecordingSize::Long` says.
 #[derive(Drop)]
 pub struct Recording {
     parts: RecordingParts,
@@ -28,7 +30,7 @@ impl Recording {
     ghost use Rattle.std.specs.Prelude.{◌≡◌, ◌≤◌, ◌<◌, map, ◌↔◌, MatchOption, length, IsOk};
     ghost use Rattle.std.specs.Prelude.{IfOk, IfErr};
     ghost use Rattle.recording.specs.Execution.{event_count, event_at, core_of, write_list};
-    ghost use Rattle.recording.specs.Recording.{executed, IsRecording};
+    ghost use Rattle.recording.specs.Recording.{executed, IsRecording, IsRecordingWithin};
     ghost use Rattle.recording.specs.Refusals.{IsRefusal};
 
     /// The recording of these events, write lists and initial values, which have to be one (`from_parts`
@@ -44,25 +46,28 @@ impl Recording {
         }
     }
 
-    /// The recording of these events, write lists and initial values, or the first refusal: of the
+    /// The recording of a size of these events, write lists and initial values, or the first refusal: of the
     /// limits, of the least event without its source, of the least event without the value of its
-    /// source, of the least address without its write list.
+    /// source, of the least address without its write list. Fails only if out of memory.
     pub fn from_parts(
+        alloc: Global,
+        size: RecordingSize,
         cores: Vec<Vec<Event>>,
         writes: Vec<Vec<EventId>>,
         init: Vec<u32>,
-    ) -> Result<Recording, RecError>
-        ensures exact { IsOk result ↔ IsRecording
-            (executed (map (λ v. v.items) cores.items) (map (λ v. v.items) writes.items) init.items) }
-        ensures ok { IfOk result (λ r. r
-            ≡ executed (map (λ v. v.items) cores.items) (map (λ v. v.items) writes.items) init.items) }
-        ensures err { IfErr result (λ e. IsRefusal
-            (executed (map (λ v. v.items) cores.items) (map (λ v. v.items) writes.items) init.items) e) }
+    ) -> Result<Result<Recording, RecError>, OutOfMemory>
+        ensures exact { IfOk result (λ r. IsOk r ↔ IsRecordingWithin size
+            (executed (map (λ v. v.items) cores.items) (map (λ v. v.items) writes.items) init.items)) }
+        ensures ok { IfOk result (λ r. IfOk r (λ r. r
+            ≡ executed (map (λ v. v.items) cores.items) (map (λ v. v.items) writes.items) init.items)) }
+        ensures size { IfOk result (λ r. IfOk r (IsRecordingWithin size)) }
+        ensures err { IfOk result (λ r. IfErr r (λ e. IsRefusal size
+            (executed (map (λ v. v.items) cores.items) (map (λ v. v.items) writes.items) init.items) e)) }
     {
         let parts = RecordingParts::new(cores, writes, init);
-        match parts.refusal() {
-            Some(refusal) => Err(refusal),
-            None => Ok(Recording { parts }),
+        match parts.refusal(alloc, size)? {
+            Some(refusal) => Ok(Err(refusal)),
+            None => Ok(Ok(Recording { parts })),
         }
     }
 

@@ -3,18 +3,21 @@
 use crate::fault::RecError;
 use crate::numbered::Numbered;
 use crate::parts::RecordingParts;
-use common::{Addr, EventId, MAX_ADDRESSES, MAX_CORES};
+use crate::size::RecordingSize;
+use common::{Addr, EventId, OutOfMemory};
+use std::alloc::Global;
 
 impl<'p> Numbered<'p> {
-    ghost use Rattle.std.specs.Prelude.{◌≡◌, ◌↔◌, ◌<◌, ◌≤◌, ◌⊎◌, ℕ, IsTrue, MatchOption, length};
-    ghost use Rattle.common.specs.declared.limits.TheConstants.{MAX_CORES, MAX_EVENTS, MAX_ADDRESSES};
+    ghost use Rattle.std.specs.Prelude.{◌≡◌, ◌↔◌, ◌<◌, ◌≤◌, ◌⊎◌, ℕ, IsTrue, IfOk, MatchOption, length};
+    ghost use Rattle.common.specs.declared.limits.TheConstants.{MAX_RECORDED_EVENTS};
+    ghost use Rattle.recording.specs.declared.size.RecordingSize.TheVariants.{Long};
     ghost use Rattle.recording.specs.Execution.{event_count, Reads, Writes};
-    ghost use Rattle.recording.specs.Recording.{IsRecording, IsWithinLimits};
+    ghost use Rattle.recording.specs.Recording.{IsRecordingWithin, IsWithinLimits};
     ghost use Rattle.recording.specs.Refusals.{HasSource, HasValue, HasWriteList, IsLeastWithout, IsRefusal};
 
     /// Whether each address that is used has a write list.
     fn has_all_lists(&self) -> bool
-        requires { event_count self.now ≤ MAX_EVENTS }
+        requires { event_count self.now ≤ MAX_RECORDED_EVENTS }
         ensures { IsTrue result ↔ ((e a : ℕ) → Reads self.now e a ⊎ Writes self.now e a
             → a < length self.now.write_lists) }
     {
@@ -26,17 +29,20 @@ impl<'p> Numbered<'p> {
         true
     }
 
-    /// Whether they are within the limits, each address that is used has a write list, and each that has
-    /// one has an initial value.
-    fn is_within_limits(&self) -> bool
-        requires { event_count self.now ≤ MAX_EVENTS }
-        ensures { IsTrue result ↔ IsWithinLimits self.now }
+    /// Whether they are within the limits of a size, each address that is used has a write list, and each
+    /// that has one has an initial value.
+    fn is_within_limits(&self, size: RecordingSize) -> bool
+        requires { event_count self.now ≤ MAX_RECORDED_EVENTS }
+        ensures { IsTrue result ↔ IsWithinLimits size self.now }
     {
         let parts = self.parts();
-        if parts.cores().len() > MAX_CORES {
+        if parts.cores().len() > size.cores() {
             return false;
         }
-        if parts.writes().len() > MAX_ADDRESSES {
+        if self.len() > size.events() {
+            return false;
+        }
+        if parts.writes().len() > size.addresses() {
             return false;
         }
         if parts.init().len() != parts.writes().len() {
@@ -47,7 +53,7 @@ impl<'p> Numbered<'p> {
 
     /// The least event whose source is no write to the address that it reads.
     fn first_without_source(&self) -> Option<EventId>
-        requires { event_count self.now ≤ MAX_EVENTS }
+        requires { event_count self.now ≤ MAX_RECORDED_EVENTS }
         ensures { MatchOption result ((e : ℕ) → HasSource self.now e)
             (λ e. IsLeastWithout (HasSource self.now) e) }
     {
@@ -61,7 +67,7 @@ impl<'p> Numbered<'p> {
 
     /// The least event whose value read is not that of its source.
     fn first_without_value(&self) -> Option<EventId>
-        requires { event_count self.now ≤ MAX_EVENTS }
+        requires { event_count self.now ≤ MAX_RECORDED_EVENTS }
         ensures { MatchOption result ((e : ℕ) → HasValue self.now e)
             (λ e. IsLeastWithout (HasValue self.now) e) }
     {
@@ -74,51 +80,60 @@ impl<'p> Numbered<'p> {
     }
 
     /// The least address whose write list does not have each of its writes once and nothing else.
-    fn first_without_list(&self) -> Option<Addr>
-        requires { IsWithinLimits self.now }
-        ensures { MatchOption result ((a : ℕ) → HasWriteList self.now a)
-            (λ a. IsLeastWithout (HasWriteList self.now) a) }
+    fn first_without_list(&self, alloc: Global) -> Result<Option<Addr>, OutOfMemory>
+        requires { IsWithinLimits Long self.now }
+        ensures { IfOk result (λ r. MatchOption r ((a : ℕ) → HasWriteList self.now a)
+            (λ a. IsLeastWithout (HasWriteList self.now) a)) }
     {
-        let right = self.first_lists_right();
+        let right = self.first_lists_right(alloc)?;
         if right < self.parts().writes().len() {
-            return Some(right as Addr);
+            return Ok(Some(right as Addr));
         }
-        None
+        Ok(None)
     }
 
     /// Why they are no recording, as `RecordingParts::refusal` has it.
-    fn first_refusal(&self) -> Option<RecError>
-        requires { event_count self.now ≤ MAX_EVENTS }
-        ensures { MatchOption result (IsRecording self.now) (λ e. IsRefusal self.now e) }
+    fn first_refusal(
+        &self,
+        alloc: Global,
+        size: RecordingSize,
+    ) -> Result<Option<RecError>, OutOfMemory>
+        requires { event_count self.now ≤ MAX_RECORDED_EVENTS }
+        ensures { IfOk result (λ r. MatchOption r (IsRecordingWithin size self.now) (λ e. IsRefusal size self.now e)) }
     {
-        if !self.is_within_limits() {
-            return Some(RecError::Limits);
+        if !self.is_within_limits(size) {
+            return Ok(Some(RecError::Limits));
         }
         if let Some(event) = self.first_without_source() {
-            return Some(RecError::Source(event));
+            return Ok(Some(RecError::Source(event)));
         }
         if let Some(event) = self.first_without_value() {
-            return Some(RecError::Value(event));
+            return Ok(Some(RecError::Value(event)));
         }
-        if let Some(address) = self.first_without_list() {
-            return Some(RecError::WriteList(address));
+        if let Some(address) = self.first_without_list(alloc)? {
+            return Ok(Some(RecError::WriteList(address)));
         }
-        None
+        Ok(None)
     }
 }
 
 impl RecordingParts {
-    ghost use Rattle.std.specs.Prelude.{MatchOption};
-    ghost use Rattle.recording.specs.Recording.{IsRecording};
+    ghost use Rattle.std.specs.Prelude.{IfOk, MatchOption};
+    ghost use Rattle.recording.specs.Recording.{IsRecordingWithin};
     ghost use Rattle.recording.specs.Refusals.{IsRefusal};
 
-    /// Why they are no recording: what is refused first.
-    pub(crate) fn refusal(&self) -> Option<RecError>
-        ensures { MatchOption result (IsRecording self.now) (λ e. IsRefusal self.now e) }
+    /// Why they are no recording of a size: what is refused first.
+    pub(crate) fn refusal(
+        &self,
+        alloc: Global,
+        size: RecordingSize,
+    ) -> Result<Option<RecError>, OutOfMemory>
+        ensures { IfOk result (λ r. MatchOption r (IsRecordingWithin size self.now) (λ e. IsRefusal size self.now e)) }
     {
         let Some(_) = self.count() else {
-            return Some(RecError::Limits);
+            return Ok(Some(RecError::Limits));
         };
-        Numbered::new(self).first_refusal()
+        let numbered = Numbered::new(alloc, self)?;
+        numbered.first_refusal(alloc, size)
     }
 }

@@ -20,7 +20,7 @@ use Rattle.recording.specs.Order.{place, times}
 use Rattle.recording.specs.OrderLaws.{times_here}
 use Rattle.recording.specs.PlaceLaws.{place_at, times_at}
 use Rattle.recording.specs.PlacedLaws.{placed_total}
-use Rattle.recording.specs.Recording.{IsRecording}
+use Rattle.recording.specs.Recording.{IsShortRecording}
 use Rattle.machine.specs.FirstUseLaws.{HaveAddressesOf, numbered_counts}
 use Rattle.machine.specs.Orderly.{placed_op}
 use Rattle.machine.specs.ProgramLaws.{made_addresses, events_made}
@@ -112,7 +112,7 @@ restricted_from p x ks u v w used names cores init us vs ws is a b d = parts_sam
     (d ∙ ap (λ (l : List ℕ). map (initial_value x) l) ws)
 
 module _ (p : Parts) (x : Execution) (ks : List ℕ) (program : IsProgram p) (is : IsProgramOf p x)
-    (recording : IsRecording x) (closed : AreClosed x ks) where
+    (recording : IsShortRecording x) (closed : AreClosed x ks) where
   -- an address that is used has a name
   named : (a : ℕ) → 0 < times (addresses_of x ks) a → a < length p.names
   named a there = omega (
@@ -149,7 +149,7 @@ module _ (p : Parts) (x : Execution) (ks : List ℕ) (program : IsProgram p) (is
   unfolding restricted_program
   restricted_is_program =
       let us : List ℕ = addresses_of x ks in
-      let y : IsRecording (restriction x ks) = restriction_recording x ks closed recording in
+      let y : IsShortRecording (restriction x ks) = restriction_recording x ks closed recording in
       let numbered : IsNumberedByFirstUse (restriction x ks) =
       (every_restriction_is_faithful x ks recording.well_formed closed).numbered in
       let names : length (map (name_at p.names) us) ≡ length us = length-map us (name_at p.names) in

@@ -1,6 +1,6 @@
 //! The program of the events that are kept.
 
-ghost use Rattle.common.specs.declared.limits.TheConstants.{MAX_EVENTS};
+ghost use Rattle.common.specs.declared.limits.TheConstants.{MAX_RECORDED_EVENTS};
 ghost use Rattle.std.specs.Prelude.{◌≡◌, ◌≤◌, IfOk, map, length};
 ghost use Rattle.std.specs.List.{IsDistinct};
 ghost use Rattle.program.specs.Names.{name_eq};
@@ -39,7 +39,7 @@ fn op_at(program: &Program, number: EventId) -> Op
 
 /// An operation with its address by its place.
 fn readdressed(op: Op, addresses: &[Addr]) -> Op
-    requires { length addresses.now ≤ MAX_EVENTS }
+    requires { length addresses.now ≤ MAX_RECORDED_EVENTS }
     ensures { result ≡ readdressed (place addresses.now) op }
 {
     match op {
@@ -59,7 +59,7 @@ fn ops_of(
     addresses: &[Addr],
     numbers: &[EventId],
 ) -> Result<Ops, OutOfMemory>
-    requires { length addresses.now ≤ MAX_EVENTS }
+    requires { length addresses.now ≤ MAX_RECORDED_EVENTS }
     ensures { IfOk result (λ ops. ops ≡ map (readdressed_op program.now addresses.now) numbers.now) }
 {
     let mut ops = Ops::new(alloc);
@@ -76,7 +76,7 @@ fn cores_of(
     addresses: &[Addr],
     cores: &[Vec<EventId>],
 ) -> Result<Vec<Ops>, OutOfMemory>
-    requires { length addresses.now ≤ MAX_EVENTS }
+    requires { length addresses.now ≤ MAX_RECORDED_EVENTS }
     ensures { IfOk result (λ lists. lists.items
         ≡ map (λ v. map (readdressed_op program.now addresses.now) v.items) cores.now) }
 {

@@ -14,7 +14,7 @@ use Rattle.recording.specs.declared.event.Event.{Event}
 use Rattle.recording.specs.Event.{read_address, written_address, value_read, source, is_plain_store}
 use Rattle.recording.specs.Execution.{Execution, placed_from, event_at}
 use Rattle.recording.specs.Order.{times}
-use Rattle.recording.specs.Recording.{IsRecording}
+use Rattle.recording.specs.Recording.{IsShortRecording}
 use Rattle.recording.specs.Tso.{IsTsoOrder, IsWellFormed}
 use Rattle.recording.specs.OrderLaws.{times_here, times_append}
 use Rattle.write_buffer.specs.declared.entry.Entry.{Entry}
@@ -58,7 +58,7 @@ stores_most (es ∷ rest) (suc c) =
 -- The addresses of a recording's operations
 
 -- the operations of a recording have addresses with write lists
-recording_fits : (x : Execution) → IsRecording x
+recording_fits : (x : Execution) → IsShortRecording x
     → All (λ ops. All (IsWithin (length x.write_lists)) ops) (program_of x)
 recording_fits x r =
     all_within (program_of x) (length x.write_lists) (λ e.
@@ -116,7 +116,7 @@ module _ (x : Execution) (m : List ℕ) (tso : IsTsoOrder x m) (n : ℕ) (t : St
   ]
 
   -- and made this recording
-  recorded_it : IsRecording x → n ≡ length x.write_lists → t.initial ≡ x.initial
+  recorded_it : IsShortRecording x → n ≡ length x.write_lists → t.initial ≡ x.initial
       → IsWellFormed (recorded (program_of x) t) → IsTsoOrder (recorded (program_of x) t) t.performed
       → recorded (program_of x) t ≡ x
   recorded_it r n_is initial well order =
@@ -165,7 +165,7 @@ module _ (law : Laws) where
   -- the steps replay the order, on a lawful program of this many addresses
   steps_replay : (x : Execution) (m : List ℕ) (capacity : ℕ) (names : List Name)
       → length names ≡ length x.write_lists → IsProgram (parts_of names (program_of x) x.initial)
-      → IsRecording x → IsTsoOrder x m → most_stores x.cores ≤ capacity
+      → IsShortRecording x → IsTsoOrder x m → most_stores x.cores ≤ capacity
       → IsReplay x m (parts_of names (program_of x) x.initial) capacity (replay_steps x m)
   steps_replay x m capacity names named lawful r tso room =
       let p : List (List Op) = program_of x in

@@ -10,7 +10,7 @@ use Rattle.program.specs.Parts.{Parts, IsWithin}
 use Rattle.recording.specs.declared.event.Event.{Event}
 use Rattle.recording.specs.Event.{read_address, written_address}
 use Rattle.recording.specs.Execution.{Execution, event_at}
-use Rattle.recording.specs.Recording.{IsRecording}
+use Rattle.recording.specs.Recording.{IsShortRecording}
 use Rattle.recording.specs.PlacedLaws.{placed_at}
 use Rattle.moesi.specs.declared.error.CacheError.{CacheError}
 use Rattle.write_buffer.specs.declared.entry.Entry.{Entry}
@@ -137,7 +137,7 @@ all_within p n each c other core i d inside =
 
 -- the operations of a program that makes a recording have addresses with initial values
 pub made_fits : (p : Parts) (capacity : ℕ) (steps : List Step) (x : Execution)
-    → recorded p.cores (led_to p capacity steps) ≡ x → IsRecording x
+    → recorded p.cores (led_to p capacity steps) ≡ x → IsShortRecording x
     → All (λ ops. All (IsWithin (length p.init)) ops) p.cores
 made_fits p capacity steps x made r =
     let s : State = led_to p capacity steps in

@@ -14,7 +14,8 @@ use Rattle.recording.specs.declared.event.Event.{Event}
 use Rattle.recording.specs.declared.event.Event.TheVariants.{F}
 use Rattle.recording.specs.Event.{is_plain_store}
 use Rattle.recording.specs.Execution.{Execution}
-use Rattle.recording.specs.Recording.{IsRecording}
+use Rattle.recording.specs.declared.size.RecordingSize.{RecordingSize}
+use Rattle.recording.specs.Recording.{IsRecordingWithin, IsShortRecording}
 use Rattle.replay.specs.Program.{op_of, program_of}
 use Rattle.replay.specs.Steps.{most_stores}
 use Rattle.recording.specs.FirstUse.{IsNumberedByFirstUse}
@@ -53,12 +54,12 @@ have_addresses : (x : Execution) → HaveAddressesOf (program_of x) x
 have_addresses x = made_addresses (named_program x) x (named_is_of x)
 
 -- so it counts addresses that are numbered by first use
-program_numbered : (x : Execution) → IsNumberedByFirstUse x → IsRecording x
+program_numbered : {size : RecordingSize} (x : Execution) → IsNumberedByFirstUse x → IsRecordingWithin size x
     → use_cores 0 (program_of x) ≡ Some (length x.write_lists)
 program_numbered x numbered r = numbered_counts x (program_of x) (have_addresses x) numbered r.within.addresses
 
 -- the names, the operations and the initial values of a recording are a program
-pub named_is_program : (x : Execution) → IsRecording x → IsNumberedByFirstUse x
+pub named_is_program : (x : Execution) → IsShortRecording x → IsNumberedByFirstUse x
     → AllByRecursion (AllByRecursion Small) (program_of x) → AllByRecursion IsSmall x.initial
     → IsProgram (named_program x)
 named_is_program x r numbered small small_init =
@@ -97,8 +98,8 @@ most_one n h = max-eq_left h
 abbrev pub list_ops : Vec Event Global → List Op
 list_ops v = map op_of v.items
 
-module _ (x : Execution) (lists : List (Vec Event Global)) (are : map (λ v. v.items) lists ≡ x.cores)
-    (r : IsRecording x) (used i : ℕ)
+module _ {size : RecordingSize} (x : Execution) (lists : List (Vec Event Global)) (are : map (λ v. v.items) lists ≡ x.cores)
+    (r : IsRecordingWithin size x) (used i : ℕ)
     (so_far : use_cores used (map list_ops (drop i lists)) ≡ use_cores 0 (map list_ops lists)) where
   -- they are the program's
   list_program : map list_ops lists ≡ program_of x

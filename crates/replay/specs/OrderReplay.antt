@@ -3,7 +3,7 @@ use Rattle.std.specs.Prelude.{◌≡◌, ◌≤◌, ◌*◌, ◌↔◌, ℕ, Lis
 use Rattle.std.specs.List.{AllByRecursion}
 use Rattle.program.specs.Parts.{Parts, IsProgram, Small, IsSmall}
 use Rattle.recording.specs.Execution.{Execution, event_count}
-use Rattle.recording.specs.Recording.{IsRecording}
+use Rattle.recording.specs.Recording.{IsShortRecording}
 use Rattle.recording.specs.Tso.{IsTsoOrder}
 use Rattle.machine.specs.declared.fault.Fault.TheVariants as fault
 use Rattle.machine.specs.declared.step.Step.{Step}
@@ -30,9 +30,9 @@ pub record IsReplay (x : Execution) (m : List ℕ) (p : Parts) (capacity : ℕ) 
   pub within : All (IsStepOf p) steps
   pub few : length steps ≤ 3 * event_count x
 
--- a recording with values of 32 bits, whose addresses are numbered by first use, none unused
+-- a recording no larger than a program, with values of 32 bits, whose addresses are numbered by first use, none unused
 pub record IsReplayable (x : Execution) : Type 0 where
-  pub recording : IsRecording x
+  pub recording : IsShortRecording x
   pub small : AllByRecursion (AllByRecursion Small) (program_of x) × AllByRecursion IsSmall x.initial
   pub numbered : IsNumberedByFirstUse x
 

@@ -4,6 +4,7 @@ ghost use Rattle.std.specs.Prelude.{◌≡◌, IfOk};
 ghost use Rattle.std.specs.List.{AllByRecursion};
 ghost use Rattle.program.specs.Parts.{IsSmall};
 ghost use Rattle.recording.specs.FirstUse.{IsNumberedByFirstUse};
+ghost use Rattle.recording.specs.Recording.{IsShortRecording};
 ghost use Rattle.machine.specs.ProgramOf.{IsProgramOf};
 ghost use Rattle.replay.specs.Program.{named_program};
 
@@ -25,11 +26,12 @@ fn values_of(alloc: Global, init: &[u32]) -> Result<Vec<u32>, OutOfMemory>
     Ok(values)
 }
 
-/// The program that makes a recording whose addresses are numbered by first use, none unused: the operation
+/// The program that makes a recording that is no larger, whose addresses are numbered by first use, none unused: the operation
 /// that each event came from, the name `a` and its number for each address, and the initial values.
 /// Fails only if out of memory.
 pub fn named_program(alloc: Global, recording: &Recording) -> Result<Program, OutOfMemory>
-    requires { IsNumberedByFirstUse recording.now }
+    requires short { IsShortRecording recording.now }
+    requires numbered { IsNumberedByFirstUse recording.now }
     ensures program { IfOk result (λ program. program ≡ named_program recording.now) }
     ensures made { IfOk result (λ program. IsProgramOf program recording.now) }
 {

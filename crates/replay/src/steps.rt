@@ -5,6 +5,7 @@ ghost use Rattle.recording.specs.Execution.{event_count};
 ghost use Rattle.recording.specs.Order.{times};
 ghost use Rattle.recording.specs.Tso.{IsTsoOrder};
 ghost use Rattle.recording.specs.FirstUse.{IsNumberedByFirstUse};
+ghost use Rattle.recording.specs.Recording.{IsShortRecording};
 ghost use Rattle.replay.specs.Program.{program_of, named_program};
 ghost use Rattle.replay.specs.Steps.{most_stores, order_steps, replay_steps};
 ghost use Rattle.replay.specs.OrderReplay.{IsReplay};
@@ -49,7 +50,7 @@ fn steps_of(
     Ok(replay)
 }
 
-/// A program and the steps that perform a TSO order of a recording: a machine of this program
+/// A program and the steps that perform a TSO order of a recording that is no larger: a machine of this program
 /// without fault, whose store buffers have room for the plain stores of a core (`most_stores`),
 /// takes them all, comes to its end, and makes this recording again. They are at most three times as
 /// many as the events; the addresses of the recording are numbered by first use, and none is unused.
@@ -59,6 +60,7 @@ pub fn replay_steps(
     recording: &Recording,
     order: &[EventId],
 ) -> Result<(Program, Vec<Step>), OutOfMemory>
+    requires short { IsShortRecording recording.now }
     requires numbered { IsNumberedByFirstUse recording.now }
     requires order { IsTsoOrder recording.now order.now }
     ensures program { IfOk result (λ r. r.0 ≡ named_program recording.now) }

@@ -7,7 +7,8 @@ use Rattle.serde_json.specs.Data.{Data}
 use Rattle.serde_json.specs.Find.{as_object}
 use Rattle.recording.specs.declared.event.Event.{Event}
 use Rattle.recording.specs.Execution.{Execution}
-use Rattle.recording.specs.Recording.{IsRecording}
+use Rattle.recording.specs.declared.size.RecordingSize.TheVariants.{Short}
+use Rattle.recording.specs.Recording.{IsShortRecording}
 use Rattle.recording.specs.Tso.{Gives, IsValueOf}
 use Rattle.recording.specs.declared.fault.RecError.{RecError}
 use Rattle.recording.specs.declared.fault.RecError.TheVariants.{NotJson, Shape, Version, Limits, Source, Value}
@@ -42,7 +43,7 @@ one_least P m n a b = elim (cases_lt m n) [
 ]
 
 -- an execution has one refusal
-one_refusal : (x : Execution) (r s : RecError) → IsRefusal x r → IsRefusal x s → r ≡ s
+one_refusal : (x : Execution) (r s : RecError) → IsRefusal Short x r → IsRefusal Short x s → r ≡ s
 one_refusal x NotJson s a b = absurd a
 one_refusal x Shape s a b = absurd a
 one_refusal x Version s a b = absurd a
@@ -86,7 +87,7 @@ value_given x a None v is = is
 value_given x a (Some w) v is = is.1
 
 -- a recording has none
-no_refusal : (x : Execution) (r : RecError) → IsRecording x → IsRefusal x r → ⊥
+no_refusal : (x : Execution) (r : RecError) → IsShortRecording x → IsRefusal Short x r → ⊥
 no_refusal x NotJson is a = a
 no_refusal x Shape is a = a
 no_refusal x Version is a = a
@@ -98,8 +99,8 @@ no_refusal x OutOfMemory is a = a
 
 -- an execution is a recording, or is refused
 IsOutcome : Execution → Option RecError → Type 0
-IsOutcome x None = IsRecording x
-IsOutcome x (Some r) = IsRefusal x r
+IsOutcome x None = IsShortRecording x
+IsOutcome x (Some r) = IsRefusal Short x r
 
 -- what is then answered
 answer : Execution → Option RecError → Result Execution RecError

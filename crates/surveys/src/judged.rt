@@ -1,6 +1,8 @@
 //! What is found in a line.
 
-ghost use Rattle.std.specs.Prelude.{◌≡◌, ◌≢◌, ◌⊎◌, IfOk};
+ghost use Rattle.std.specs.Prelude.{◌≡◌, ◌≢◌, ◌≤◌, ◌⊎◌, IfOk};
+ghost use Rattle.common.specs.declared.limits.TheConstants.{MAX_EVENTS};
+ghost use Rattle.recording.specs.Execution.{event_count};
 ghost use Rattle.verdicts.specs.declared.verdict.Verdict.{Verdict};
 ghost use Rattle.verdicts.specs.Judgement.{IsVerdict};
 ghost use Rattle.ledger.specs.Findings.{finding_of};
@@ -31,6 +33,7 @@ fn refused(refusal: RecError) -> Result<Finding, OutOfMemory>
 
 /// What the verdict on a recording finds.
 fn found_in(alloc: Global, recording: &Recording) -> Result<Finding, OutOfMemory>
+    requires { event_count recording.now ≤ MAX_EVENTS }
     ensures { IfOk result (λ f. (verdict : Verdict) × IsVerdict recording.now verdict
         × (f ≡ finding_of verdict)) }
 {

@@ -1,6 +1,7 @@
-//! Rows of numbers, a space before each.
+//! Rows of numbers and of labels, a space before each.
 
-ghost use Rattle.std.specs.Prelude.{◌≡◌, ◌<◌, ◌≤◌, ◌+◌, ◌*◌, ◌++◌, ℕ, All, List, IfOk, OnOk, decimal, length, take};
+ghost use Rattle.std.specs.Prelude.{◌≡◌, ◌<◌, ◌≤◌, ◌+◌, ◌*◌, ◌++◌, ℕ, All, List, IfOk, OnOk, IsTrue, decimal, length};
+ghost use Rattle.std.specs.Prelude.{take};
 ghost use Rattle.common.specs.declared.limits.TheConstants.{MAX_EVENTS};
 ghost use Rattle.texts.specs.Numbers.{numbers_text};
 ghost use Rattle.texts.specs.NumberTexts.{IsTextOf, AreTexts};
@@ -10,37 +11,48 @@ use common::{MAX_EVENTS, OutOfMemory};
 use std::alloc::Global;
 use std::simd::prelude::*;
 
-/// The greatest of the numbers; of none 0. It reads to the end, so that several are compared at once.
-fn greatest(numbers: &[u16]) -> u16
-    ensures { All (λ n. n ≤ result) numbers.now }
+/// The greatest of the labels; of none 0. It reads to the end, so that several are compared at once.
+fn greatest(labels: &[u16]) -> u16
+    ensures { All (λ n. n ≤ result) labels.now }
+{
+    let mut greatest = 0;
+    for label in labels {
+        greatest = greatest.max(*label);
+    }
+    greatest
+}
+
+/// Whether each number has one to three digits. It reads to the end, so that several are compared at once.
+fn are_short(numbers: &[u32]) -> bool
+    ensures { IsTrue result → All (λ n. n < 1000) numbers.now }
 {
     let mut greatest = 0;
     for number in numbers {
         greatest = greatest.max(*number);
     }
-    greatest
+    greatest < 1000
 }
 
-/// Writes a space and a digit for each number.
-fn write_digits(places: &mut [u8], numbers: &[u16])
-    requires room { length places.old ≡ 2 * length numbers.now }
-    requires digits { All (λ n. n < 10) numbers.now }
-    ensures { places.new ≡ numbers_text numbers.now }
+/// Writes a space and a digit for each label.
+fn write_digits(places: &mut [u8], labels: &[u16])
+    requires room { length places.old ≡ 2 * length labels.now }
+    requires digits { All (λ n. n < 10) labels.now }
+    ensures { places.new ≡ numbers_text labels.now }
 {
-    for (i, number) in numbers.iter().enumerate() {
+    for (i, label) in labels.iter().enumerate() {
         places[2 * i] = b' ';
-        places[2 * i + 1] = b'0' + *number as u8;
+        places[2 * i + 1] = b'0' + *label as u8;
     }
 }
 
-/// Adds a space before each number of one digit.
-fn put_digits(out: &mut Vec<u8>, numbers: &[u16]) -> Result<(), OutOfMemory>
-    requires { All (λ n. n < 10) numbers.now }
-    ensures { OnOk result (out.new.items ≡ out.old.items ++ numbers_text numbers.now) }
+/// Adds a space before each label of one digit.
+fn put_digits(out: &mut Vec<u8>, labels: &[u16]) -> Result<(), OutOfMemory>
+    requires { All (λ n. n < 10) labels.now }
+    ensures { OnOk result (out.new.items ≡ out.old.items ++ numbers_text labels.now) }
 {
     let start = out.len();
-    out.resize(start + 2 * numbers.len(), b' ')?;
-    write_digits(out.slice_mut(start..), numbers);
+    out.resize(start + 2 * labels.len(), b' ')?;
+    write_digits(out.slice_mut(start..), labels);
     Ok(())
 }
 
@@ -70,7 +82,7 @@ fn write_short(places: &mut [u8], at: usize, number: u16) -> usize
 }
 
 /// Writes from a place on a space and its digits for each number, and answers the place after them.
-fn write_all_short(places: &mut [u8], start: usize, numbers: &[u16]) -> usize
+fn write_all_short(places: &mut [u8], start: usize, numbers: &[u32]) -> usize
     requires room { start + 4 * length numbers.now ≤ length places.old }
     requires short { All (λ n. n < 1000) numbers.now }
     ensures { take result places.new ≡ take start places.old ++ numbers_text numbers.now }
@@ -78,13 +90,13 @@ fn write_all_short(places: &mut [u8], start: usize, numbers: &[u16]) -> usize
     let mut at = start;
     for number in numbers {
         places[at] = b' ';
-        at = write_short(places, at + 1, *number);
+        at = write_short(places, at + 1, *number as u16);
     }
     at
 }
 
 /// Adds a space before each number of one to three digits, at most one for each event.
-fn put_short(out: &mut Vec<u8>, numbers: &[u16]) -> Result<(), OutOfMemory>
+fn put_short(out: &mut Vec<u8>, numbers: &[u32]) -> Result<(), OutOfMemory>
     requires short { All (λ n. n < 1000) numbers.now }
     requires few { length numbers.now ≤ MAX_EVENTS }
     ensures { OnOk result (out.new.items ≡ out.old.items ++ numbers_text numbers.now) }
@@ -143,65 +155,93 @@ fn write_text(places: &mut [u8], at: usize, text: NumberText) -> usize
     at + text.size as usize
 }
 
-/// Writes the text of the number at a place among others, and answers the place after it.
-fn write_number(
+/// Writes the text of the label at a place among others, and answers the place after it.
+fn write_label(
     places: &mut [u8],
     at: usize,
-    numbers: &[u16],
+    labels: &[u16],
     i: usize,
     texts: &[NumberText],
 ) -> usize
-    requires i { i < length numbers.now }
+    requires i { i < length labels.now }
     requires room { at + 4 ≤ length places.old }
     requires texts { AreTexts texts.now }
-    requires known { All (λ n. n < length texts.now) numbers.now }
+    requires known { All (λ n. n < length texts.now) labels.now }
     ensures size { length places.new ≡ length places.old }
     ensures end { result ≤ at + 4 }
-    ensures text { (before : List ℕ) → take at places.old ≡ before ++ numbers_text (take i numbers.now)
-        → take result places.new ≡ before ++ numbers_text (take (i + 1) numbers.now) }
+    ensures text { (before : List ℕ) → take at places.old ≡ before ++ numbers_text (take i labels.now)
+        → take result places.new ≡ before ++ numbers_text (take (i + 1) labels.now) }
 {
-    write_text(places, at, texts[numbers[i] as usize])
+    write_text(places, at, texts[labels[i] as usize])
 }
 
-/// Writes from a place on the text of each number, four in a turn, and answers the place after them.
-fn write_texts(places: &mut [u8], start: usize, numbers: &[u16], texts: &[NumberText]) -> usize
-    requires room { start + 4 * length numbers.now ≤ length places.old }
+/// Writes from a place on the text of each label, four in a turn, and answers the place after them.
+fn write_texts(places: &mut [u8], start: usize, labels: &[u16], texts: &[NumberText]) -> usize
+    requires room { start + 4 * length labels.now ≤ length places.old }
     requires texts { AreTexts texts.now }
-    requires known { All (λ n. n < length texts.now) numbers.now }
-    ensures { take result places.new ≡ take start places.old ++ numbers_text numbers.now }
+    requires known { All (λ n. n < length texts.now) labels.now }
+    ensures { take result places.new ≡ take start places.old ++ numbers_text labels.now }
 {
     let mut at = start;
     let mut i = 0;
-    'fours: while numbers.len() - i >= 4 {
-        at = write_number(places, at, numbers, i, texts);
-        at = write_number(places, at, numbers, i + 1, texts);
-        at = write_number(places, at, numbers, i + 2, texts);
-        at = write_number(places, at, numbers, i + 3, texts);
+    'fours: while labels.len() - i >= 4 {
+        at = write_label(places, at, labels, i, texts);
+        at = write_label(places, at, labels, i + 1, texts);
+        at = write_label(places, at, labels, i + 2, texts);
+        at = write_label(places, at, labels, i + 3, texts);
         i += 4;
     }
-    'rest: while i < numbers.len() {
-        at = write_number(places, at, numbers, i, texts);
+    'rest: while i < labels.len() {
+        at = write_label(places, at, labels, i, texts);
         i += 1;
     }
     at
 }
 
-/// Adds a space before each number, at most one for each event, by their texts.
-fn put_texts(out: &mut Vec<u8>, numbers: &[u16], texts: &[NumberText]) -> Result<(), OutOfMemory>
+/// Adds a space before each label, at most one for each event, by their texts.
+fn put_texts(out: &mut Vec<u8>, labels: &[u16], texts: &[NumberText]) -> Result<(), OutOfMemory>
     requires texts { AreTexts texts.now }
-    requires known { All (λ n. n < length texts.now) numbers.now }
-    requires few { length numbers.now ≤ MAX_EVENTS }
-    ensures { OnOk result (out.new.items ≡ out.old.items ++ numbers_text numbers.now) }
+    requires known { All (λ n. n < length texts.now) labels.now }
+    requires few { length labels.now ≤ MAX_EVENTS }
+    ensures { OnOk result (out.new.items ≡ out.old.items ++ numbers_text labels.now) }
 {
     let start = out.len();
-    out.resize(start + 4 * numbers.len(), b' ')?;
-    let end = write_texts(out.as_mut_slice(), start, numbers, texts);
+    out.resize(start + 4 * labels.len(), b' ')?;
+    let end = write_texts(out.as_mut_slice(), start, labels, texts);
     out.truncate(end);
     Ok(())
 }
 
+/// Adds a space before each label, one at a time.
+fn put_each_label(out: &mut Vec<u8>, labels: &[u16]) -> Result<(), OutOfMemory>
+    ensures { OnOk result (out.new.items ≡ out.old.items ++ numbers_text labels.now) }
+{
+    for label in labels {
+        out.push(b' ')?;
+        put_number(out, *label as usize)?;
+    }
+    Ok(())
+}
+
+/// Adds a row of labels to a text, in decimal, a space before each, by the texts of the first numbers. Fails only if
+/// out of memory. Most rows have digits alone, and the texts are of nearly all others, so that they are written
+/// without a test of the room for each of them.
+pub fn put_row(out: &mut Vec<u8>, labels: &[u16], texts: &[NumberText]) -> Result<(), OutOfMemory>
+    requires { AreTexts texts.now }
+    ensures { OnOk result (out.new.items ≡ out.old.items ++ numbers_text labels.now) }
+{
+    let greatest = greatest(labels);
+    if greatest < 10 {
+        put_digits(out, labels)
+    } else if (greatest as usize) < texts.len() && labels.len() <= MAX_EVENTS {
+        put_texts(out, labels, texts)
+    } else {
+        put_each_label(out, labels)
+    }
+}
+
 /// Adds a space before each number, one at a time.
-fn put_each(out: &mut Vec<u8>, numbers: &[u16]) -> Result<(), OutOfMemory>
+fn put_each(out: &mut Vec<u8>, numbers: &[u32]) -> Result<(), OutOfMemory>
     ensures { OnOk result (out.new.items ≡ out.old.items ++ numbers_text numbers.now) }
 {
     for number in numbers {
@@ -211,32 +251,14 @@ fn put_each(out: &mut Vec<u8>, numbers: &[u16]) -> Result<(), OutOfMemory>
     Ok(())
 }
 
-/// Adds the numbers to a text, in decimal, a space before each. Fails only if out of memory. Most lines of
-/// labels have digits alone, and all have short numbers, which are written without a test of the room for
-/// each of them.
-pub fn put_numbers(out: &mut Vec<u8>, numbers: &[u16]) -> Result<(), OutOfMemory>
+/// Adds the numbers to a text, in decimal, a space before each. Fails only if out of memory. The few short numbers of
+/// a recording that is no larger than a program are written without a test of the room for each of them.
+pub fn put_numbers(out: &mut Vec<u8>, numbers: &[u32]) -> Result<(), OutOfMemory>
     ensures { OnOk result (out.new.items ≡ out.old.items ++ numbers_text numbers.now) }
 {
-    let greatest = greatest(numbers);
-    if greatest < 10 {
-        put_digits(out, numbers)
-    } else if greatest < 1000 && numbers.len() <= MAX_EVENTS {
+    if numbers.len() <= MAX_EVENTS && are_short(numbers) {
         put_short(out, numbers)
     } else {
         put_each(out, numbers)
-    }
-}
-
-/// Adds a row of numbers as `put_numbers` does, by texts that were made before where they are of all numbers. Fails
-/// only if out of memory.
-pub fn put_row(out: &mut Vec<u8>, numbers: &[u16], texts: &[NumberText]) -> Result<(), OutOfMemory>
-    requires { AreTexts texts.now }
-    ensures { OnOk result (out.new.items ≡ out.old.items ++ numbers_text numbers.now) }
-{
-    let greatest = greatest(numbers);
-    if greatest >= 10 && (greatest as usize) < texts.len() && numbers.len() <= MAX_EVENTS {
-        put_texts(out, numbers, texts)
-    } else {
-        put_numbers(out, numbers)
     }
 }

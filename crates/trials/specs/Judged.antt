@@ -2,6 +2,7 @@
 use Rattle.std.specs.Prelude.{◌≡◌, ℕ, List, Option, None, Some, ⊤}
 use Rattle.program.specs.Parts.{Parts}
 use Rattle.recording.specs.Execution.{Execution}
+use Rattle.recording.specs.Recording.{IsShortRecording}
 use Rattle.recording.specs.Tso.{IsTsoOrder}
 use Rattle.machine.specs.declared.fault.Fault.{Fault}
 use Rattle.machine.specs.declared.fault.Fault.TheVariants as faults
@@ -38,11 +39,12 @@ abbrev pub IsEndVerdict : Configuration → Option Verdict → Type 0
 IsEndVerdict h None = IsAtEnd h → ⊥
 IsEndVerdict h (Some verdict) = IsAtEnd h × IsVerdict (recording_of h) verdict
 
--- the recording of a complete machine, which is one of its program, and the verdict on it, which passes its check;
+-- the recording of a complete machine, which is one of its program and no larger, and the verdict on it, which passes its check;
 -- without fault the order of what was performed is one of TSO
 pub record IsJudgement (h : Configuration) (j : Judged) : Type 0 where
   pub complete : IsAtEnd h
   pub recording : j.recording ≡ recording_of h
+  pub short : IsShortRecording j.recording
   pub program : IsProgramOf h.program j.recording
   pub verdict : IsVerdict j.recording j.verdict
   pub verified : Verifies j.recording j.verdict

@@ -3,7 +3,7 @@
 ghost use Rattle.std.specs.Prelude.{◌<◌};
 
 use crate::campaigns::campaign;
-use common::OutOfMemory;
+use common::{MAX_EVENTS, OutOfMemory};
 use judge::{Verdict, judge_alone};
 use litmus::print;
 use machine::Fault;
@@ -24,10 +24,18 @@ fn code_of(verdict: &Verdict) -> u64 {
     }
 }
 
+/// The code of a recording; 0 of one that is too long to be a trial's.
+fn recorded_code(alloc: Global, recording: &Recording) -> Result<u64, OutOfMemory> {
+    if recording.len() > MAX_EVENTS {
+        return Ok(0);
+    }
+    Ok(code_of(&judge_alone(alloc, recording)?))
+}
+
 /// The code of a trial's recording, or of an unfinished trial where there is none.
 fn wanted_code(alloc: Global, recording: Option<&Recording>) -> Result<u64, OutOfMemory> {
     match recording {
-        Some(recording) => Ok(code_of(&judge_alone(alloc, recording)?)),
+        Some(recording) => recorded_code(alloc, recording),
         None => Ok(UNFINISHED),
     }
 }

@@ -1,6 +1,8 @@
 //! The check of a verdict from anywhere.
 
-ghost use Rattle.std.specs.Prelude.{IfOk};
+ghost use Rattle.std.specs.Prelude.{◌≤◌, IfOk};
+ghost use Rattle.common.specs.declared.limits.TheConstants.{MAX_EVENTS};
+ghost use Rattle.recording.specs.Execution.{event_count};
 ghost use Rattle.verification.specs.Checked.{IsCheckAnswer};
 ghost use Rattle.tsotest_library.specs.Checked.{IsCheckOf};
 
@@ -12,6 +14,7 @@ use verification::{check_text_alone, text_check_answer};
 
 /// Whether a text is that of a verdict that holds of a recording, as an answer. Fails only if out of memory.
 fn checked(alloc: Global, recording: &Recording, text: &[u8]) -> Result<Answer, OutOfMemory>
+    requires { event_count recording.now ≤ MAX_EVENTS }
     ensures { IfOk result (IsCheckAnswer recording.now text.now) }
 {
     let check = check_text_alone(alloc, recording, text)?;

@@ -1,6 +1,7 @@
 //! Renderings of a recording, by the text of its program.
 
 ghost use Rattle.std.specs.Prelude.{IfOk};
+ghost use Rattle.recording.specs.Recording.{IsShortRecording};
 ghost use Rattle.tsotest_library.specs.Rendered.{IsOwnOrRefused, IsRenderedByText, IsRenderedOf};
 
 use answers::{Rendering, rendered_answer};
@@ -48,6 +49,7 @@ fn rendered_by(
     recording: &Recording,
     text: &[u8],
 ) -> Result<Answer, OutOfMemory>
+    requires { IsShortRecording recording.now }
     ensures { IfOk result (IsRenderedByText rendering recording.now text.now) }
 {
     if text.is_empty() {

@@ -3,7 +3,7 @@ use Rattle.std.specs.Prelude.{◌≡◌, ℕ, Option, Some, None, List, [], map,
 use Rattle.recording.specs.declared.event.Event.{Event}
 use Rattle.recording.specs.declared.event.Event.TheVariants.{L, R, C}
 use Rattle.recording.specs.Execution.{Execution, source_of}
-use Rattle.recording.specs.Recording.{IsRecording}
+use Rattle.recording.specs.Recording.{IsShortRecording}
 use Rattle.recording.specs.Tso.{IsTsoOrder}
 use Rattle.values.specs.Final.{final_value}
 
@@ -41,7 +41,7 @@ pub record IsCompletion (v : Values) (x : Execution) (m : List ℕ) : Type 0 whe
   pub initial : x.initial ≡ v.initial
   pub sources : (e : ℕ) (s : Option ℕ) → known_source v e ≡ Some s → source_of x e ≡ s
   pub final_values : (a n : ℕ) → known_final v a ≡ Some n → final_value x a ≡ n
-  pub recording : IsRecording x
+  pub recording : IsShortRecording x
   pub tso : IsTsoOrder x m
 
 -- TSO allows the values: something completes them

@@ -3,6 +3,7 @@ use Rattle.std.proofs.Common.{◌≡◌, ◌<◌, ◌⊎◌, ◌^◌, ◌-◌, �
 use Rattle.std.proofs.Common.{map, length, get_or, arith, refl, sym, ap, subst, ◌∙◌}
 use Rattle.std.proofs.Math.ListN.{get_or-map}
 use Rattle.std.proofs.lemmas.List.{length-map, ext_get_or, get_or-map as map_at}
+use Rattle.recording.specs.declared.size.RecordingSize.TheVariants.{Short}
 use Rattle.recording.specs.declared.event.Event.{Event}
 use Rattle.recording.specs.declared.event.Event.TheVariants.{L, S, R, C, F}
 use Rattle.recording.specs.declared.fault.RecError.{RecError}
@@ -36,7 +37,7 @@ within_from v is = record {
         | inl reads ↦ inl (reads_clipped (events_alone v) e ∙ ap (option_map clip) reads)
         | inr writes ↦ inr (writes_clipped (events_alone v) e ∙ ap (option_map clip) writes)
       ]) in
-      omega (arith, below, unclipped a (omega (arith, below, is.few_addresses, addresses_fit)));
+      omega (arith, below, unclipped a (omega (arith, below, is.few_addresses, addresses_fit Short)));
   sources = sym (length-map v.sources clip_source) ∙ (is.sources ∙ count_clipped (events_alone v));
   final_values = is.final_values;
 }
@@ -44,7 +45,7 @@ within_from v is = record {
 -- within the limits no address that is used is clipped
 fits : (v : Values) → AreWithinLimits v → (e a : ℕ) → Reads (events_alone v) e a ⊎ Writes (events_alone v) e a
     → clip a ≡ a
-fits v within e a uses = small a (omega (arith, within.addresses e a uses, within.few_addresses, addresses_fit))
+fits v within e a uses = small a (omega (arith, within.addresses e a uses, within.few_addresses, addresses_fit Short))
 
 -- what is there and not clipped is there in what is clipped
 same_to : {o c : Option ℕ} {a : ℕ} → c ≡ option_map clip o → ((b : ℕ) → o ≡ Some b → clip b ≡ b) → o ≡ Some a
@@ -97,10 +98,10 @@ within_to v is = record {
 
 -- ---- sources and their values
 
--- what writes has a number below the greatest of 16 bits
-writer_fits : (v : Values) → AreWithinLimits v → (e a : ℕ) → Writes (events_alone v) e a → e < 2 ^ 16 - 1
+-- what writes has a number below the greatest of 32 bits
+writer_fits : (v : Values) → AreWithinLimits v → (e a : ℕ) → Writes (events_alone v) e a → e < 2 ^ 32 - 1
 writer_fits v within e a writes =
-    omega (arith, Writes-event (events_alone v) e a writes, within.few_events, events_fit)
+    omega (arith, Writes-event (events_alone v) e a writes, within.few_events, events_fit Short)
 
 -- a known source is clipped
 source_clipped : (v : Values) (e : ℕ) → known_source (clipped_values v) e ≡ clip_source (known_source v e)

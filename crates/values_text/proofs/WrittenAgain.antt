@@ -14,13 +14,13 @@ use Rattle.serde_json.proofs.Numbers.{number_of-decimal}
 use Rattle.recording.specs.declared.event.Event.TheVariants.{L, S, R, C, F}
 use Rattle.recorder.specs.Reading.{value_in, source_in, list_in}
 use Rattle.recorder.specs.Text.{number_data, list_data, source_data, members}
-use Rattle.recorder.specs.Written.{IsShort, IsWord, IsShortSource}
+use Rattle.recorder.specs.Written.{IsWord, IsWordSource}
 use Rattle.recorder.proofs.Again.{value_again}
 use Rattle.recorder.proofs.WrittenAgain.{Rereads}
 use Rattle.values.specs.Values.{Values}
 use Rattle.values_text.specs.Reading.{KnownEvent, known_event, known_event_in, final_in, values_contents, values_shape}
 use Rattle.values_text.specs.Text.{known_cores, known_members, known_data, final_data, contents_data_3, values_data}
-use Rattle.values_text.specs.Text.{written_finals, IsShortKnown, IsFittingKnown, IsFittingFinal, AreFittingFinals}
+use Rattle.values_text.specs.Text.{written_finals, IsWordKnown, IsFittingKnown, IsFittingFinal, AreFittingFinals}
 use Rattle.values_text.specs.Text.{AreFittingNumbers}
 
 -- ---- the value is read of its text
@@ -42,7 +42,7 @@ number_rereads n h = record {
 }
 
 -- a source
-source_rereads : (s : Option ℕ) → IsShortSource s → Rereads 0 (source_data s)
+source_rereads : (s : Option ℕ) → IsWordSource s → Rereads 0 (source_data s)
 source_rereads None h = record { same = refl; numbers = tt; shallow = omega arith; no_float = refl }
 source_rereads (Some s) h = number_rereads s (omega (arith, h))
 
@@ -78,7 +78,7 @@ list_rereads f Fits k each xs all =
     }
 
 -- an event that reads, of this kind
-reading_rereads : (kind : List ℕ) (a r : ℕ) (o : Option (Option ℕ)) → IsShort a → IsWord r → IsShortKnown o
+reading_rereads : (kind : List ℕ) (a r : ℕ) (o : Option (Option ℕ)) → IsWord a → IsWord r → IsWordKnown o
     → Rereads 1 (object (members (known_members kind a r o)))
 reading_rereads kind a r None short word known =
     let x = number_rereads a (omega (arith, short)) in
@@ -101,7 +101,7 @@ reading_rereads kind a r (Some s) short word known =
     }
 
 -- a read-modify-write
-rmw_rereads : (a r w : ℕ) (s : Option ℕ) (o : Option (Option ℕ)) → IsShort a → IsWord r → IsShortKnown o → IsWord w
+rmw_rereads : (a r w : ℕ) (s : Option ℕ) (o : Option (Option ℕ)) → IsWord a → IsWord r → IsWordKnown o → IsWord w
     → Rereads 1 (known_data (R a r s w, o))
 rmw_rereads a r w t None short word known written =
     let x = number_rereads a (omega (arith, short)) in

@@ -1,4 +1,4 @@
--- What the reader holds of values: 16 bits of the number of an address and of an event, as the readers of recordings.
+-- What the reader holds of values: 32 bits of the number of an address and of an event, as the readers of recordings.
 use Rattle.std.specs.Prelude.{ℕ, Option, option_map, map}
 use Rattle.serde_json.specs.Data.{Data}
 use Rattle.recorder.specs.Clipped.{clip, clip_event}

@@ -7,7 +7,7 @@ use Rattle.serde_json.specs.Written.{compact_text}
 use Rattle.recording.specs.declared.event.Event.{Event}
 use Rattle.recording.specs.declared.event.Event.TheVariants.{L, S, R, C, F}
 use Rattle.recorder.specs.Text.{number_data, list_data, members, read_members, event_data}
-use Rattle.recorder.specs.Written.{IsShort, IsWord, IsShortSource}
+use Rattle.recorder.specs.Written.{IsWord, IsWordSource}
 use Rattle.values.specs.Values.{Values}
 use Rattle.values_text.specs.Reading.{KnownEvent}
 
@@ -60,17 +60,17 @@ values_data v = contents_data_3 (known_cores v.cores v.sources) (written_finals 
 unfoldable pub text_of_values : Values → List ℕ
 text_of_values v = compact_text (values_data v) ++ 10 ∷ []
 
--- a source that is known has 16 bits, if it is a write
-abbrev pub IsShortKnown : Option (Option ℕ) → Type 0
-IsShortKnown None = ⊤
-IsShortKnown (Some s) = IsShortSource s
+-- a source that is known has 32 bits, if it is a write
+abbrev pub IsWordKnown : Option (Option ℕ) → Type 0
+IsWordKnown None = ⊤
+IsWordKnown (Some s) = IsWordSource s
 
 -- each number of an event and of its source fits
 abbrev pub IsFittingKnown : KnownEvent → Type 0
-IsFittingKnown (L a r s, o) = IsShort a × IsWord r × IsShortKnown o
-IsFittingKnown (S a w, o) = IsShort a × IsWord w
-IsFittingKnown (R a r s w, o) = IsShort a × IsWord r × IsShortKnown o × IsWord w
-IsFittingKnown (C a r s, o) = IsShort a × IsWord r × IsShortKnown o
+IsFittingKnown (L a r s, o) = IsWord a × IsWord r × IsWordKnown o
+IsFittingKnown (S a w, o) = IsWord a × IsWord w
+IsFittingKnown (R a r s w, o) = IsWord a × IsWord r × IsWordKnown o × IsWord w
+IsFittingKnown (C a r s, o) = IsWord a × IsWord r × IsWordKnown o
 IsFittingKnown (F, o) = ⊤
 
 -- a final value fits

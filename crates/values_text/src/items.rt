@@ -109,11 +109,11 @@ impl Item for Option<u32> {
     }
 }
 
-fn number_in(value: &Value) -> Option<u16>
+fn number_in(value: &Value) -> Option<u32>
     ensures { result ≡ clipped_number (view value.now) }
 {
     let n = value.as_u64()?;
-    Some(u16::try_from(n).unwrap_or(u16::MAX))
+    Some(u32::try_from(n).unwrap_or(u32::MAX))
 }
 
 fn source_in(value: &Value) -> Option<Option<EventId>>
@@ -126,7 +126,7 @@ fn source_in(value: &Value) -> Option<Option<EventId>>
     Some(Some(source))
 }
 
-fn number_at(value: &Value, key: &str) -> Option<u16>
+fn number_at(value: &Value, key: &str) -> Option<u32>
     ensures { result ≡ at_key clipped_number key.now (view value.now) }
 {
     number_in(value.get(key)?)

@@ -4,8 +4,8 @@ ghost use Rattle.std.specs.Prelude.{◌≡◌, IfOk};
 ghost use Rattle.serde_json.specs.Data.{put, string, object};
 ghost use Rattle.serde_json.specs.View.{view, members_view};
 ghost use Rattle.recorder.specs.Text.{source_data, members};
-ghost use Rattle.recorder.specs.Written.{IsShortSource};
-ghost use Rattle.values_text.specs.Text.{known_members, known_data, IsShortKnown, IsFittingKnown};
+ghost use Rattle.recorder.specs.Written.{IsWordSource};
+ghost use Rattle.values_text.specs.Text.{known_members, known_data, IsWordKnown, IsFittingKnown};
 
 use common::{Addr, EventId};
 use serde_json::{Map, Value, put};
@@ -41,7 +41,7 @@ fn with_text(
 
 fn source_value(source: Option<EventId>) -> Value
     ensures value { view result ≡ source_data source }
-    ensures fits { IsShortSource source }
+    ensures fits { IsWordSource source }
 {
     match source {
         Some(write) => Value::from(write),
@@ -58,7 +58,7 @@ fn known_members(
     source: Option<Option<EventId>>,
 ) -> Result<Map<String, Value>, AllocError>
     ensures value { IfOk result (λ m. members_view m.entries ≡ members (known_members kind.now a r source)) }
-    ensures fits { IfOk result (λ _. IsShortKnown source) }
+    ensures fits { IfOk result (λ _. IsWordKnown source) }
 {
     let members = with(alloc, Map::new(alloc), "a", Value::from(a))?;
     let members = with_text(alloc, members, "k", kind)?;

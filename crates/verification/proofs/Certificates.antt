@@ -14,7 +14,7 @@ use Rattle.verdicts.specs.declared.verdict.Verdict.{Verdict}
 use Rattle.verdicts.specs.declared.verdict.Verdict.TheVariants.{Ordered, Overlook, Cycle}
 use Rattle.verdicts.specs.Verified.{Verifies}
 use Rattle.verdicts.specs.VerdictText.{ArePairLines, IsVerdictText, labels_text}
-use Rattle.verification.specs.Proof.{AreRows, Are16Bit, HasShortLabels, IsProof}
+use Rattle.verification.specs.Proof.{AreRows, Are16Bit, Are32Bit, HasShortLabels, IsProof}
 use Rattle.verification.proofs.Heads.{one_byte}
 
 -- what a relation of numbers below n leads along is below n
@@ -30,7 +30,7 @@ leads_below R n within e (f ∷ fs) back leads (suc k) d low =
 pub record HasParts (x : Execution) (n : ℕ) (c : List ℕ) (rows : List (List ℕ)) (rest : List ℕ) : Type 0 where
   pub some : 0 < length c
   pub few : length c ≤ n
-  pub short : Are16Bit c
+  pub short : Are32Bit c
   pub rows_are : AreRows n rows
   pub certified : IsCertificate (Forced x) n c rows
   pub pairs : List ℕ
@@ -44,7 +44,7 @@ cycle_some R (e ∷ es) cyclic = omega arith
 
 -- the numbers of a cycle of numbers below n are short
 cycle_short : (R : ℕ → ℕ → Type 0) (n : ℕ) → n ≤ 512 → ((e f : ℕ) → R e f → (e < n) × (f < n)) → (c : List ℕ)
-    → IsCycle R c → Are16Bit c
+    → IsCycle R c → Are32Bit c
 cycle_short R n few within [] cyclic k d low = absurd cyclic
 cycle_short R n few within (e ∷ es) cyclic k d low =
     omega (arith, few, leads_below R n within e es e cyclic k d low)

@@ -24,7 +24,7 @@ not_both : (b : Bool) → b ≡ true → b ≡ false → ⊥
 not_both b is other = false≢true (sym other ∙ is)
 
 -- the digits of a number before another byte end with it
-pub digits_end : (text : List ℕ) (end n b : ℕ) (more : List ℕ) → n < 2 ^ 16 → is_digit b ≡ false
+pub digits_end : (text : List ℕ) (end n b : ℕ) (more : List ℕ) → n < 2 ^ 32 → is_digit b ≡ false
     → text ≡ decimal n ++ b ∷ more → end ≤ length text
     → ((i : ℕ) → i < end → is_digit (get_or text i 0) ≡ true)
     → (end < length text → is_digit (get_or text end 0) ≡ false) → end ≡ length (decimal n)
@@ -45,7 +45,7 @@ digits_end text end n b more small other is within before at =
     ]
 
 -- what is read of the digits of a number is the number
-pub read_number : (o : Option Number) (digits : List ℕ) (n : ℕ) → n < 2 ^ 16 → digits ≡ decimal n
+pub read_number : (o : Option Number) (digits : List ℕ) (n : ℕ) → n < 2 ^ 32 → digits ≡ decimal n
     → AreValues o (decimal_of digits) → o ≡ Some (Value n)
 read_number o digits n small is read = is_value o (subst (λ (t : List ℕ). AreValues o (decimal_of t)) is read)
   where
@@ -67,7 +67,7 @@ read_digits digits n small read = by_value (decimal_of digits) refl read
     by_value (Some m) is h = sym (only n digits small (is ∙ ap Some (sym h)))
 
 -- what is read of the digits that a text begins with, where it begins with a number
-pub leads : (o : Option Number) (text : List ℕ) (end n b : ℕ) (more : List ℕ) → n < 2 ^ 16
+pub leads : (o : Option Number) (text : List ℕ) (end n b : ℕ) (more : List ℕ) → n < 2 ^ 32
     → is_digit b ≡ false → text ≡ decimal n ++ b ∷ more → end ≤ length text
     → ((i : ℕ) → i < end → is_digit (get_or text i 0) ≡ true)
     → (end < length text → is_digit (get_or text end 0) ≡ false) → AreValues o (decimal_of (take end text))

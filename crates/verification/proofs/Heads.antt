@@ -13,14 +13,15 @@ use Rattle.verdicts.specs.declared.verdict.Verdict.TheVariants.{Ordered, Overloo
 use Rattle.verdicts.specs.Verified.{Verifies}
 use Rattle.texts.specs.Numbers.{numbers_text}
 use Rattle.verdicts.specs.VerdictText.{IsVerdictText, labels_text, overlook_line}
-use Rattle.verification.specs.Proof.{IsProof, IsRow}
+use Rattle.verification.specs.Proof.{AreNumbers, IsProof}
 
 -- where two texts are one, so are their bytes at a place
 pub one_byte : (s t : List ℕ) (i : ℕ) → s ≡ t → get_or s i 0 ≡ get_or t i 0
 one_byte s t i is = ap (λ (u : List ℕ). get_or u i 0) is
 
--- the events of an order are those of the execution, and so few that their numbers are short
-pub order_is_row : (x : Execution) (m : List ℕ) → event_count x ≤ 512 → IsTsoOrder x m → IsRow (event_count x) m
+-- the events of an order are those of the execution, and so few that their numbers have 32 bits
+pub order_is_row : (x : Execution) (m : List ℕ) → event_count x ≤ 16777216 → IsTsoOrder x m
+    → AreNumbers (event_count x) m
 order_is_row x m few order = record {
   size = length_total (event_count x) m order.total;
   short = λ k d low.

@@ -4,6 +4,7 @@ use Rattle.std.specs.Prelude.{Result, IfOk}
 use Rattle.std.proofs.lemmas.Bool.{cases_lt}
 use Rattle.std.proofs.lemmas.List.{get_or_default, get_or_past}
 use Rattle.std.proofs.lemmas.Result.{IfOk-weaker}
+use Rattle.common.specs.declared.limits.TheConstants.{MAX_EVENTS}
 use Rattle.common.specs.declared.memory.OutOfMemory.{OutOfMemory}
 use Rattle.recording.specs.Execution.{Execution, event_count}
 use Rattle.recording.specs.Recording.{IsRecording}
@@ -21,7 +22,7 @@ use Rattle.verification.specs.declared.text_check.TextCheck.{TextCheck}
 use Rattle.verification.specs.declared.text_check.TextCheck.TheVariants.{Holds}
 use Rattle.verification.specs.Proof.{Are16Bit, EveryVerdictHolds, IsTextOfVerdict, IsProof}
 
-module _ (x : Execution) (is : IsRecording x) where
+module _ (x : Execution) (is : IsRecording x) (few : event_count x ≤ MAX_EVENTS) where
   -- forced pairs are pairs of events
   within : (e f : ℕ) → Forced x e f → (e < event_count x) × (f < event_count x)
   within e f forced = forced_within x is.well_formed forced.0 e f forced.1
@@ -34,7 +35,6 @@ module _ (x : Execution) (is : IsRecording x) where
         let exact = found.exact.exact v low in
         let other : (d : List ℕ) × IsCycle (Forced x) d × (length d ≤ event_count x) =
         short_cycle (Forced x) (event_count x) within c.cycle.items found.least.shortest.cycle in
-        let few : event_count x ≤ 512 = is.within.few_events in
         omega (
           arith,
           few,
@@ -67,10 +67,10 @@ module _ (x : Execution) (is : IsRecording x) where
 
 -- the law
 pub judged_is_proof : EveryVerdictHolds
-judged_is_proof x text is judged = proof_of x is text judged.verdict judged.printed judged.found
+judged_is_proof x text is few judged = proof_of x is few text judged.verdict judged.printed judged.found
 
 -- so what is said of a text exactly where it is a proof is said of that of the verdict
-pub judged_holds : (x : Execution) (text : List ℕ) → IsRecording x → EveryVerdictHolds
+pub judged_holds : (x : Execution) (text : List ℕ) → IsRecording x → event_count x ≤ MAX_EVENTS → EveryVerdictHolds
     → (r : Result TextCheck OutOfMemory) → IfOk r (λ f. (f ≡ Holds) ↔ IsProof x text)
     → IfOk r (λ f. IsTextOfVerdict x text → f ≡ Holds)
-judged_holds x text is law r exact = IfOk-weaker r _ _ (λ f says judged. says.1 (law x text is judged)) exact
+judged_holds x text is few law r exact = IfOk-weaker r _ _ (λ f says judged. says.1 (law x text is few judged)) exact

@@ -12,7 +12,7 @@ use Rattle.relations.specs.declared.reason.Reason.TheVariants.{Po, Wo, Rf, Fr}
 use Rattle.relations.specs.Forced.{IsReason}
 use Rattle.relations.specs.Cycle.{next_in_cycle}
 use Rattle.verdicts.specs.VerdictText.{pair_line, reason_name, IsPairLine, ArePairLines}
-use Rattle.verification.specs.Proof.{Are16Bit}
+use Rattle.verification.specs.Proof.{Are32Bit}
 
 -- a pair has one first reason
 pub one_reason : (x : Execution) (e f : ℕ) (q r : Reason) → IsReason x e f (Some q) → IsReason x e f (Some r)
@@ -130,7 +130,7 @@ along_start path c some same j low =
     ∙ ap (λ (k : ℕ). get_or c k (get_or c 0 0)) (sym here)
 
 -- what is after an event is one
-pub next_short : (c : List ℕ) (i : ℕ) → 0 < length c → Are16Bit c → next_in_cycle c i < 2 ^ 16
+pub next_short : (c : List ℕ) (i : ℕ) → 0 < length c → Are32Bit c → next_in_cycle c i < 2 ^ 32
 next_short c i some short = elim (cases_lt (i + 1) (length c)) [
   | inl inside ↦ short (i + 1) (get_or c 0 0) inside
   | inr not ↦ let past : get_or c (i + 1) (get_or c 0 0) ≡ get_or c 0 0 = get_or_past c (i + 1) (get_or c 0 0) not in

@@ -1,7 +1,8 @@
 -- What a text has to be, that it holds of an execution.
-use Rattle.std.specs.Prelude.{◌≡◌, ◌≢◌, ◌<◌, ◌^◌, ◌++◌, ◌↔◌, ℕ, List, [], length, slice_index_or, All, ⊤}
+use Rattle.std.specs.Prelude.{◌≡◌, ◌≢◌, ◌<◌, ◌≤◌, ◌^◌, ◌++◌, ◌↔◌, ℕ, List, [], length, slice_index_or, All, ⊤}
 use Rattle.std.specs.Prelude.{Result, Ok, Err, codes}
-use Rattle.recording.specs.Execution.{Execution}
+use Rattle.common.specs.declared.limits.TheConstants.{MAX_EVENTS}
+use Rattle.recording.specs.Execution.{Execution, event_count}
 use Rattle.recording.specs.Recording.{IsRecording}
 use Rattle.relations.specs.Relation.{Table}
 use Rattle.labels.specs.Certified.{lists_of, Certifies}
@@ -14,14 +15,23 @@ use Rattle.verdicts.specs.VerdictText.{IsVerdictText}
 use Rattle.verification.specs.declared.text_check.TextCheck.{TextCheck}
 use Rattle.verification.specs.declared.text_check.TextCheck.TheVariants.{Holds}
 
--- numbers of 16 bits
-abbrev pub Are16Bit : List ℕ → Type 0
-Are16Bit numbers = All (λ n. n < 2 ^ 16) numbers
+-- numbers of 32 bits
+abbrev pub Are32Bit : List ℕ → Type 0
+Are32Bit numbers = All (λ n. n < 2 ^ 32) numbers
 
--- this many numbers of 16 bits
-pub record IsRow (count : ℕ) (numbers : List ℕ) : Type 0 where
+-- this many numbers of 32 bits
+pub record AreNumbers (count : ℕ) (numbers : List ℕ) : Type 0 where
   pub size : length numbers ≡ count
-  pub short : Are16Bit numbers
+  pub short : Are32Bit numbers
+
+-- labels of 16 bits
+abbrev pub Are16Bit : List ℕ → Type 0
+Are16Bit labels = All (λ n. n < 2 ^ 16) labels
+
+-- this many labels of 16 bits
+pub record IsRow (count : ℕ) (labels : List ℕ) : Type 0 where
+  pub size : length labels ≡ count
+  pub short : Are16Bit labels
 
 -- this many rows of this many numbers
 pub record AreRows (count : ℕ) (rows : List (List ℕ)) : Type 0 where
@@ -53,6 +63,7 @@ pub record IsTextOfVerdict (x : Execution) (text : List ℕ) : Type 0 where
   pub printed : IsVerdictText x verdict text
   pub found : IsVerdict x verdict
 
--- the text of the verdict on a recording is a proof
+-- the text of the verdict on a recording that has labels is a proof
 abbrev pub EveryVerdictHolds : Type 0
-EveryVerdictHolds = (x : Execution) (text : List ℕ) → IsRecording x → IsTextOfVerdict x text → IsProof x text
+EveryVerdictHolds = (x : Execution) (text : List ℕ) → IsRecording x → event_count x ≤ MAX_EVENTS
+    → IsTextOfVerdict x text → IsProof x text

@@ -9,7 +9,7 @@ ghost use Rattle.relations.specs.Relation.{Related};
 ghost use Rattle.labels.specs.Certified.{Certifies};
 ghost use Rattle.verdicts.specs.VerdictText.{ArePairLines};
 ghost use Rattle.verification.specs.declared.text_check.TextCheck.TheVariants.{Holds};
-ghost use Rattle.verification.specs.Proof.{Are16Bit, IsProof, IsReadCycle};
+ghost use Rattle.verification.specs.Proof.{Are32Bit, IsProof, IsReadCycle};
 
 use crate::cursor::Cursor;
 use crate::cycle::pairs;
@@ -56,7 +56,7 @@ fn cycle(
     ensures found { IfOk result (λ r. IfSome r (λ c. (lines : List ℕ)
         × ArePairLines places.now c.items (length c.items) lines
         × (rest.old ≡ decimal (length c.items) ++ 10 ∷ (lines ++ rest.new)))) }
-    ensures only { IfOk result (λ r. (c lines more : List ℕ) → 0 < length c → length c ≤ most → Are16Bit c
+    ensures only { IfOk result (λ r. (c lines more : List ℕ) → 0 < length c → length c ≤ most → Are32Bit c
         → ArePairLines places.now c (length c) lines
         → rest.old ≡ decimal (length c) ++ 10 ∷ (lines ++ more)
         → MatchOption r ⊥ (λ v. v.items ≡ c) × (rest.new ≡ more)) }
@@ -147,6 +147,7 @@ pub(crate) fn check_cycle<R: Threads + Sync>(
     rest: &mut Cursor<'_>,
     workers: usize,
 ) -> Result<TextCheck, OutOfMemory>
+    requires few { event_count recording.now ≤ MAX_EVENTS }
     ensures { IfOk result (λ f. (f ≡ Holds) ↔ IsProof recording.now (codes "cycle of " ++ rest.old)) }
 {
     let relation = Relation::of(alloc, recording)?;
@@ -166,6 +167,7 @@ pub(crate) fn check_cycle_alone(
     recording: &Recording,
     rest: &mut Cursor<'_>,
 ) -> Result<TextCheck, OutOfMemory>
+    requires few { event_count recording.now ≤ MAX_EVENTS }
     ensures { IfOk result (λ f. (f ≡ Holds) ↔ IsProof recording.now (codes "cycle of " ++ rest.old)) }
 {
     let relation = Relation::of(alloc, recording)?;

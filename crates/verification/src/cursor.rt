@@ -23,32 +23,27 @@ fn digits(text: &[u8]) -> usize
     text.len()
 }
 
-/// A number that was read, if it has at most 16 bits.
-fn short(number: Option<Number>) -> Option<u16>
-    ensures found { IfSome result (λ n. (number ≡ Some (Value n)) × (n < 2 ^ 16)) }
-    ensures only { (n : ℕ) → n < 2 ^ 16 → number ≡ Some (Value n) → result ≡ Some n }
+/// A number that was read, if it has at most 32 bits.
+fn word(number: Option<Number>) -> Option<u32>
+    ensures found { IfSome result (λ n. (number ≡ Some (Value n)) × (n < 2 ^ 32)) }
+    ensures only { (n : ℕ) → number ≡ Some (Value n) → result ≡ Some n }
 {
     match number {
         None => None,
         Some(Number::TooLarge) => None,
-        Some(Number::Value(n)) => {
-            if n > u16::MAX as u32 {
-                return None;
-            }
-            Some(n as u16)
-        }
+        Some(Number::Value(n)) => Some(n),
     }
 }
 
-/// The number of 16 bits that a text begins with, and how long it is.
-fn leading(text: &[u8]) -> Option<(u16, usize)>
+/// The number of 32 bits that a text begins with, and how long it is.
+fn leading(text: &[u8]) -> Option<(u32, usize)>
     ensures within { IfSome result (λ p. p.1 ≤ length text.now) }
     ensures found { IfSome result (λ p. take p.1 text.now ≡ decimal p.0) }
-    ensures only { (n b : ℕ) (more : List ℕ) → n < 2 ^ 16 → is_digit b ≡ false
+    ensures only { (n b : ℕ) (more : List ℕ) → n < 2 ^ 32 → is_digit b ≡ false
         → text.now ≡ decimal n ++ b ∷ more → result ≡ Some (n, length (decimal n)) }
 {
     let end = digits(text);
-    let Some(number) = short(decimal(&text[..end])) else {
+    let Some(number) = word(decimal(&text[..end])) else {
         return None;
     };
     Some((number, end))
@@ -120,9 +115,9 @@ impl<'a> Cursor<'a> {
         false
     }
 
-    /// The number of 16 bits that stands next, if one does.
-    pub(crate) fn next_number(&self) -> Option<u16>
-        ensures { (n b : ℕ) (more : List ℕ) → n < 2 ^ 16 → is_digit b ≡ false
+    /// The number of 32 bits that stands next, if one does.
+    pub(crate) fn next_number(&self) -> Option<u32>
+        ensures { (n b : ℕ) (more : List ℕ) → n < 2 ^ 32 → is_digit b ≡ false
             → self.now ≡ decimal n ++ b ∷ more → result ≡ Some n }
     {
         match leading(self.rest) {
@@ -131,10 +126,10 @@ impl<'a> Cursor<'a> {
         }
     }
 
-    /// Takes the number of 16 bits that stands next, if one does.
-    pub(crate) fn number(&mut self) -> Option<u16>
+    /// Takes the number of 32 bits that stands next, if one does.
+    pub(crate) fn number(&mut self) -> Option<u32>
         ensures found { IfSome result (λ n. self.old ≡ decimal n ++ self.new) }
-        ensures only { (n b : ℕ) (more : List ℕ) → n < 2 ^ 16 → is_digit b ≡ false
+        ensures only { (n b : ℕ) (more : List ℕ) → n < 2 ^ 32 → is_digit b ≡ false
             → self.old ≡ decimal n ++ b ∷ more → (result ≡ Some n) × (self.new ≡ b ∷ more) }
     {
         let Some((number, end)) = leading(self.rest) else {

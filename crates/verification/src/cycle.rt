@@ -3,7 +3,7 @@
 ghost use Rattle.std.specs.Prelude.{◌≡◌, ◌<◌, ◌≤◌, ◌^◌, ◌++◌, ◌∷◌, ℕ, List, Some, IfOk, IfSome, MatchOption, codes};
 ghost use Rattle.std.specs.Prelude.{[], decimal, length};
 ghost use Rattle.verdicts.specs.VerdictText.{reason_name, ArePairLines, IsPairLine};
-ghost use Rattle.verification.specs.Proof.{Are16Bit};
+ghost use Rattle.verification.specs.Proof.{Are32Bit};
 
 use crate::cursor::Cursor;
 use common::{EventId, OutOfMemory};
@@ -25,7 +25,7 @@ fn reason_end(reason: Reason) -> &'static [u8]
 /// Takes a number, an arrow and a number.
 fn arrow(rest: &mut Cursor<'_>) -> Option<(EventId, EventId)>
     ensures found { IfSome result (λ p. rest.old ≡ decimal p.0 ++ codes " -> " ++ decimal p.1 ++ rest.new) }
-    ensures only { (e f : ℕ) (more : List ℕ) → e < 2 ^ 16 → f < 2 ^ 16
+    ensures only { (e f : ℕ) (more : List ℕ) → e < 2 ^ 32 → f < 2 ^ 32
         → rest.old ≡ decimal e ++ codes " -> " ++ decimal f ++ 32 ∷ more
         → (result ≡ Some (e, f)) × (rest.new ≡ 32 ∷ more) }
 {
@@ -45,7 +45,7 @@ fn arrow(rest: &mut Cursor<'_>) -> Option<(EventId, EventId)>
 fn pair(rest: &mut Cursor<'_>, places: &Places<'_>, first: EventId) -> Option<EventId>
     ensures found { IfSome result (λ f. (line : List ℕ) × IsPairLine places.now first f line
         × (rest.old ≡ line ++ rest.new)) }
-    ensures only { (f : ℕ) (line more : List ℕ) → f < 2 ^ 16 → IsPairLine places.now first f line
+    ensures only { (f : ℕ) (line more : List ℕ) → f < 2 ^ 32 → IsPairLine places.now first f line
         → rest.old ≡ line ++ more → (result ≡ Some f) × (rest.new ≡ more) }
 {
     let Some((start, second)) = arrow(rest) else {
@@ -74,7 +74,7 @@ pub(crate) fn pairs(
     requires some { 0 < count }
     ensures found { IfOk result (λ r. IfSome r (λ c. (length c.items ≡ count) × ((lines : List ℕ)
         × ArePairLines places.now c.items count lines × (rest.old ≡ lines ++ rest.new)))) }
-    ensures only { IfOk result (λ r. (c lines more : List ℕ) → length c ≡ count → Are16Bit c
+    ensures only { IfOk result (λ r. (c lines more : List ℕ) → length c ≡ count → Are32Bit c
         → ArePairLines places.now c count lines → rest.old ≡ lines ++ more
         → MatchOption r ⊥ (λ v. v.items ≡ c) × (rest.new ≡ more)) }
 {

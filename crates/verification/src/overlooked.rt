@@ -13,7 +13,7 @@ use relations::is_overlook;
 /// Takes the numbers of a load and a store, and the end of the line.
 fn overlook(rest: &mut Cursor<'_>) -> Option<(EventId, EventId)>
     ensures found { IfSome result (λ p. rest.old ≡ decimal p.0 ++ codes " store " ++ decimal p.1 ++ 10 ∷ rest.new) }
-    ensures only { (l s : ℕ) (more : List ℕ) → l < 2 ^ 16 → s < 2 ^ 16
+    ensures only { (l s : ℕ) (more : List ℕ) → l < 2 ^ 32 → s < 2 ^ 32
         → rest.old ≡ decimal l ++ codes " store " ++ decimal s ++ 10 ∷ more
         → (result ≡ Some (l, s)) × (rest.new ≡ more) }
 {

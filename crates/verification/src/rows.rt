@@ -8,13 +8,13 @@ ghost use Rattle.verdicts.specs.VerdictText.{labels_line, labels_text};
 ghost use Rattle.verification.specs.Proof.{AreRows, IsRow};
 
 use crate::cursor::Cursor;
-use crate::numbers::numbers;
+use crate::numbers::labels;
 use common::{MAX_EVENTS, OutOfMemory};
 use std::alloc::Global;
 
 /// Takes how the line of the labels from this event begins.
 fn row_start(rest: &mut Cursor<'_>, event: usize) -> bool
-    requires { event < 2 ^ 16 }
+    requires { event < 2 ^ 32 }
     ensures found { IsTrue result → rest.old ≡ codes "labels " ++ decimal event ++ codes ":" ++ rest.new }
     ensures only { (more : List ℕ) → rest.old ≡ codes "labels " ++ decimal event ++ codes ":" ++ more
         → IsTrue result × (rest.new ≡ more) }
@@ -38,7 +38,7 @@ fn row(
     event: usize,
     count: usize,
 ) -> Result<Option<Vec<u16>>, OutOfMemory>
-    requires { event < 2 ^ 16 }
+    requires { event < 2 ^ 32 }
     ensures found { IfOk result (λ r. IfSome r (λ v. IsRow count v.items
         × (rest.old ≡ labels_line event v.items ++ rest.new))) }
     ensures only { IfOk result (λ r. (labels more : List ℕ) → IsRow count labels
@@ -48,7 +48,7 @@ fn row(
     if !row_start(rest, event) {
         return Ok(None);
     }
-    numbers(rest, alloc, count)
+    labels(rest, alloc, count)
 }
 
 /// Takes the lines of the labels from each event as far as they stand, and says whether all do. Fails only if

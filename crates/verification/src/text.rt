@@ -1,6 +1,8 @@
 //! The check of a text.
 
-ghost use Rattle.std.specs.Prelude.{◌≡◌, ◌++◌, ◌↔◌, ℕ, List, IfOk, codes};
+ghost use Rattle.std.specs.Prelude.{◌≡◌, ◌≤◌, ◌++◌, ◌↔◌, ℕ, List, IfOk, codes};
+ghost use Rattle.common.specs.declared.limits.TheConstants.{MAX_EVENTS};
+ghost use Rattle.recording.specs.Execution.{event_count};
 ghost use Rattle.verification.specs.declared.text_check.TextCheck.TheVariants.{Holds};
 ghost use Rattle.verification.specs.Proof.{IsTextOfVerdict, IsProof};
 
@@ -33,7 +35,7 @@ fn check_line(
     Ok(rest.failure())
 }
 
-/// Whether a text is that of a verdict that holds of a recording, whoever wrote it: the line of any memory
+/// Whether a text is that of a verdict that holds of a recording of at most `MAX_EVENTS` events, whoever wrote it: the line of any memory
 /// order of TSO, of any read that overlooks a store, or any shortest cycle of forced pairs, each with its
 /// first reason, and labels of at most 16 bits that show that none is shorter. With more than one worker the
 /// labels are checked by threads. Else the first line that is at fault, given those before it: a row of labels
@@ -46,6 +48,7 @@ pub fn check_text<R: Threads + Sync>(
     text: &[u8],
     workers: usize,
 ) -> Result<TextCheck, OutOfMemory>
+    requires few { event_count recording.now ≤ MAX_EVENTS }
     ensures exact { IfOk result (λ f. (f ≡ Holds) ↔ IsProof recording.now text.now) }
     ensures judged { IfOk result (λ f. IsTextOfVerdict recording.now text.now → f ≡ Holds) }
 {
@@ -64,6 +67,7 @@ pub fn check_text_alone(
     recording: &Recording,
     text: &[u8],
 ) -> Result<TextCheck, OutOfMemory>
+    requires few { event_count recording.now ≤ MAX_EVENTS }
     ensures exact { IfOk result (λ f. (f ≡ Holds) ↔ IsProof recording.now text.now) }
     ensures judged { IfOk result (λ f. IsTextOfVerdict recording.now text.now → f ≡ Holds) }
 {

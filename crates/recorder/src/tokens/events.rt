@@ -8,6 +8,7 @@ ghost use Rattle.recorder.specs.ReadMembers.{AreFields, count_of};
 ghost use Rattle.serde_json.specs.Data.{Members, no_members, object};
 
 use crate::tokens::values::{begins_object, pull_number, pull_source, pull_text, pull_value};
+use common::{Addr, EventId};
 use json::Reader;
 use recording::Event;
 
@@ -15,9 +16,9 @@ use recording::Event;
 #[derive(Drop)]
 pub(crate) struct Fields<'a> {
     pub(crate) k: Option<&'a str>,
-    pub(crate) a: Option<u16>,
+    pub(crate) a: Option<Addr>,
     pub(crate) r: Option<u32>,
-    pub(crate) s: Option<Option<u16>>,
+    pub(crate) s: Option<Option<EventId>>,
     pub(crate) w: Option<u32>,
 }
 

@@ -5,9 +5,10 @@ ghost use Rattle.std.specs.Prelude.{ℕ, List, suc, map, IfOk, IfSome};
 ghost use Rattle.recorder.specs.Reading.{list_in};
 ghost use Rattle.recorder.specs.Pulled.{GivesValue};
 
-use crate::items::Item;
+use crate::items::Kind;
 use crate::tokens::values::begins_array;
 use json::Reader;
+use recording::RecordingSize;
 use std::alloc::{AllocError, Global};
 
 /// For how many items a list has room at first.
@@ -17,45 +18,47 @@ const ROOM: usize = 32;
 const LISTS: usize = 16;
 
 /// A list.
-pub(crate) fn pull_list<T: Item>(
+pub(crate) fn pull_list<K: Kind>(
     alloc: Global,
     reader: &mut Reader<'_>,
-) -> Result<Option<Vec<T>>, AllocError>
-    ensures { IfOk result (λ o. IfSome o (λ v. (depth : ℕ) → (items : List T)
-        × GivesValue (list_in T.held) (suc (suc depth)) reader.old items reader.new
-        × T.holds v.items items)) }
+    size: RecordingSize,
+) -> Result<Option<Vec<K::Item>>, AllocError>
+    ensures { IfOk result (λ o. IfSome o (λ v. (depth : ℕ) → (items : List K.Item)
+        × GivesValue (list_in K.held) (suc (suc depth)) reader.old items reader.new
+        × K.holds size v.items items)) }
 {
     if !begins_array(reader) {
         return Ok(None);
     }
     let mut found = Vec::with_capacity(alloc, ROOM)?;
     'items: while !reader.take_end_array() {
-        let Some(item) = T::pull(reader) else {
+        let Some(item) = K::pull(reader) else {
             return Ok(None);
         };
-        T::hold(&mut found, item)?;
+        K::hold(&mut found, item, size)?;
     }
     Ok(Some(found))
 }
 
 /// A list of lists.
-pub(crate) fn pull_lists<T: Item>(
+pub(crate) fn pull_lists<K: Kind>(
     alloc: Global,
     reader: &mut Reader<'_>,
-) -> Result<Option<Vec<Vec<T>>>, AllocError>
-    ensures { IfOk result (λ o. IfSome o (λ v. (depth : ℕ) → (lists : List (List T))
-        × GivesValue (list_in (list_in T.held)) (suc (suc (suc depth))) reader.old lists reader.new
-        × T.holds_lists (map (λ w. w.items) v.items) lists)) }
+    size: RecordingSize,
+) -> Result<Option<Vec<Vec<K::Item>>>, AllocError>
+    ensures { IfOk result (λ o. IfSome o (λ v. (depth : ℕ) → (lists : List (List K.Item))
+        × GivesValue (list_in (list_in K.held)) (suc (suc (suc depth))) reader.old lists reader.new
+        × K.holds_lists size (map (λ w. w.items) v.items) lists)) }
 {
     if !begins_array(reader) {
         return Ok(None);
     }
     let mut found = Vec::with_capacity(alloc, LISTS)?;
     'items: while !reader.take_end_array() {
-        let Some(list) = pull_list(alloc, reader)? else {
+        let Some(list) = pull_list::<K>(alloc, reader, size)? else {
             return Ok(None);
         };
-        T::hold_list(&mut found, list)?;
+        K::hold_list(&mut found, list, size)?;
     }
     Ok(Some(found))
 }

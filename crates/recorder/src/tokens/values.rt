@@ -9,6 +9,7 @@ ghost use Rattle.recorder.specs.Clipped.{clip, clipped_number};
 ghost use Rattle.recorder.specs.Pulled.{clipped_source, GivesValue};
 
 use crate::written::cursor::plain_number;
+use common::EventId;
 use json::{Reader, Token};
 
 pub(crate) fn begins_array(reader: &mut Reader<'_>) -> bool
@@ -43,14 +44,14 @@ pub(crate) fn pull_natural(reader: &mut Reader<'_>) -> Option<u64>
     }
 }
 
-fn clipped(n: u64) -> u16
+fn clipped(n: u64) -> u32
     ensures { result ≡ clip n }
 {
-    u16::try_from(n).unwrap_or(u16::MAX)
+    u32::try_from(n).unwrap_or(u32::MAX)
 }
 
-/// The number of an event or of an address; the greatest of 16 bits where it is greater.
-pub(crate) fn pull_number(reader: &mut Reader<'_>) -> Option<u16>
+/// The number of an event or of an address; the greatest of 32 bits where it is greater.
+pub(crate) fn pull_number(reader: &mut Reader<'_>) -> Option<u32>
     ensures { IfSome result (λ n. (depth : ℕ) → GivesValue clipped_number depth reader.old n reader.new) }
 {
     Some(clipped(pull_natural(reader)?))
@@ -70,7 +71,7 @@ pub(crate) fn pull_value(reader: &mut Reader<'_>) -> Option<u32>
 }
 
 /// The source of a read.
-pub(crate) fn pull_source(reader: &mut Reader<'_>) -> Option<Option<u16>>
+pub(crate) fn pull_source(reader: &mut Reader<'_>) -> Option<Option<EventId>>
     ensures { IfSome result (λ s. (depth : ℕ) → GivesValue clipped_source depth reader.old s reader.new) }
 {
     match reader.next()? {

@@ -4,6 +4,7 @@ ghost use Rattle.std.specs.Prelude.{◌≡◌, Some, IfSome};
 ghost use Rattle.serde_json.specs.Data.{unsigned};
 ghost use Rattle.serde_json.specs.Read.{number_of};
 
+use common::EventId;
 use std::marker::Model;
 
 /// The least number that gets no further digit.
@@ -26,7 +27,7 @@ impl<'a> Model for Cursor<'a> {
 impl<'a> Cursor<'a> {
     ghost use Rattle.std.specs.Prelude.{◌≡◌, ◌<◌, ◌+◌, ◌++◌, ◌∷◌, [], ◌⊎◌, None, IfSome, IsTrue, decimal, false};
     ghost use Rattle.recorder.specs.Text.{number_data, source_data};
-    ghost use Rattle.recorder.specs.Written.{IsShort, IsWord, IsShortSource, Begins};
+    ghost use Rattle.recorder.specs.Written.{IsWord, IsWordSource, Begins};
 
     /// A whole text.
     pub(crate) fn new(text: &'a [u8]) -> Cursor<'a>
@@ -94,13 +95,6 @@ impl<'a> Cursor<'a> {
         Some(n)
     }
 
-    /// Takes the number of 16 bits that stands next, if one does.
-    pub(crate) fn short(&mut self) -> Option<u16>
-        ensures { IfSome result (λ n. Begins number_data IsShort self.old n self.new) }
-    {
-        u16::try_from(self.number()?).ok()
-    }
-
     /// Takes the number of 32 bits that stands next, if one does.
     pub(crate) fn word(&mut self) -> Option<u32>
         ensures { IfSome result (λ n. Begins number_data IsWord self.old n self.new) }
@@ -109,13 +103,13 @@ impl<'a> Cursor<'a> {
     }
 
     /// Takes the source that stands next, if one does.
-    pub(crate) fn source(&mut self) -> Option<Option<u16>>
-        ensures { IfSome result (λ s. Begins source_data IsShortSource self.old s self.new) }
+    pub(crate) fn source(&mut self) -> Option<Option<EventId>>
+        ensures { IfSome result (λ s. Begins source_data IsWordSource self.old s self.new) }
     {
         if self.take(b"null") {
             return Some(None);
         }
-        let source = self.short()?;
+        let source = self.word()?;
         Some(Some(source))
     }
 }

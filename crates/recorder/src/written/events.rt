@@ -3,7 +3,7 @@
 ghost use Rattle.std.specs.Prelude.{◌≡◌, ◌++◌, ◌∷◌, ℕ, List, codes, decimal, IfSome};
 ghost use Rattle.serde_json.specs.Written.{compact_text};
 ghost use Rattle.recorder.specs.Text.{source_data, event_data};
-ghost use Rattle.recorder.specs.Written.{IsWord, IsShortSource, IsFitting, Begins};
+ghost use Rattle.recorder.specs.Written.{IsWord, IsWordSource, IsFitting, Begins};
 
 use crate::written::cursor::Cursor;
 use common::{Addr, EventId};
@@ -11,7 +11,7 @@ use recording::Event;
 
 /// Takes the value and the source of a read.
 fn read(rest: &mut Cursor<'_>) -> Option<(u32, Option<EventId>)>
-    ensures { IfSome result (λ p. IsWord p.0 × IsShortSource p.1
+    ensures { IfSome result (λ p. IsWord p.0 × IsWordSource p.1
         × (rest.old ≡ codes ",\"r\":" ++ (decimal p.0 ++ (codes ",\"s\":" ++ (compact_text (source_data p.1)
         ++ rest.new))))) }
 {
@@ -72,7 +72,7 @@ pub(crate) fn take_event(rest: &mut Cursor<'_>) -> Option<Event>
         }
         return None;
     }
-    let a = rest.short()?;
+    let a = rest.word()?;
     if !rest.take(b",\"k\":\"") {
         return None;
     }

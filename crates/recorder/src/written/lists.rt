@@ -6,22 +6,24 @@ ghost use Rattle.std.specs.List.{AllByRecursion};
 ghost use Rattle.recorder.specs.Text.{list_data};
 ghost use Rattle.recorder.specs.Written.{Begins};
 
-use crate::items::Item;
+use crate::items::Kind;
 use crate::written::cursor::Cursor;
-use common::MAX_EVENTS;
 use std::alloc::{AllocError, Global};
 
 /// For how many items a list has room at first.
 const ROOM: usize = 32;
 
+/// For how many lists there is room at first.
+const LISTS: usize = 16;
+
 /// A list of at most this many items.
-pub(crate) fn take_list<T: Item>(
+pub(crate) fn take_list<K: Kind>(
     alloc: Global,
     rest: &mut Cursor<'_>,
     most: usize,
-) -> Result<Option<Vec<T>>, AllocError>
+) -> Result<Option<Vec<K::Item>>, AllocError>
     ensures { IfOk result (λ o. IfSome o (λ v.
-        Begins (list_data T.datum) (AllByRecursion T.fits) rest.old v.items rest.new)) }
+        Begins (list_data K.datum) (AllByRecursion K.fits) rest.old v.items rest.new)) }
 {
     if !rest.take(b"[") {
         return Ok(None);
@@ -31,7 +33,7 @@ pub(crate) fn take_list<T: Item>(
         return Ok(Some(found));
     }
     'items: while found.len() < most {
-        let Some(item) = T::take(rest) else {
+        let Some(item) = K::take(rest) else {
             return Ok(None);
         };
         found.push(item)?;
@@ -45,24 +47,25 @@ pub(crate) fn take_list<T: Item>(
     Ok(None)
 }
 
-/// At most this many lists, none longer than a core may be.
-pub(crate) fn take_lists<T: Item>(
+/// At most this many lists, none longer than `longest`.
+pub(crate) fn take_lists<K: Kind>(
     alloc: Global,
     rest: &mut Cursor<'_>,
     most: usize,
-) -> Result<Option<Vec<Vec<T>>>, AllocError>
-    ensures { IfOk result (λ o. IfSome o (λ v. Begins (list_data (list_data T.datum))
-        (AllByRecursion (AllByRecursion T.fits)) rest.old (map (λ w. w.items) v.items) rest.new)) }
+    longest: usize,
+) -> Result<Option<Vec<Vec<K::Item>>>, AllocError>
+    ensures { IfOk result (λ o. IfSome o (λ v. Begins (list_data (list_data K.datum))
+        (AllByRecursion (AllByRecursion K.fits)) rest.old (map (λ w. w.items) v.items) rest.new)) }
 {
     if !rest.take(b"[") {
         return Ok(None);
     }
-    let mut found = Vec::with_capacity(alloc, most)?;
+    let mut found = Vec::with_capacity(alloc, LISTS)?;
     if rest.take(b"]") {
         return Ok(Some(found));
     }
     'items: while found.len() < most {
-        let Some(list) = take_list(alloc, rest, MAX_EVENTS)? else {
+        let Some(list) = take_list::<K>(alloc, rest, longest)? else {
             return Ok(None);
         };
         found.push(list)?;

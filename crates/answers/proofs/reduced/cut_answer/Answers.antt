@@ -1,6 +1,7 @@
 use Rattle.std.proofs.Common.{◌++◌, ◌∙◌, ℕ, List, ap, arith, option_map, subst}
 use Rattle.std.proofs.lemmas.Grind.{common_steps}
 use Rattle.program.specs.Parts.{Parts}
+use Rattle.recording.specs.declared.size.RecordingSize.TheVariants.{Short}
 use Rattle.answers.specs.Reduced.{heading, shown_text}
 use Rattle.verdicts.specs.VerdictAnswer.{IsVerdictAnswer}
 use Rattle.answers.proofs.reduced.cut_answer.Goals as goal
@@ -23,3 +24,10 @@ returns-in_ok-answer-in-Some-clause-some c =
       outcome = grind (arith, common_steps, reduction, shown);
       shown = shown;
     }
+
+pub program_left-requires-clause-short : goal.program_left-requires-clause-short
+program_left-requires-clause-short c = (rw c.in-Some.is at c.in_ok-reduced.ensures.size) Short c.requires.short
+
+pub append_verdict-requires : goal.append_verdict-requires
+append_verdict-requires c =
+    ((rw c.in-Some.is at c.in_ok-reduced.ensures.size) Short c.requires.short).within.few_events

@@ -54,3 +54,6 @@ returns-clause-reads g c = let o = c.args.options.now in
     (read_then (program_names o) (labels_names o) (g.H.Host.log c.recording_at.new.host)
     (g.H.Host.log c.program_given.new.host) (g.H.Host.log c.labels_given.new.host)
     c.in_ok-program.ensures.reads c.in_ok-labels.ensures.reads)
+
+pub rendered_answer-requires-clause-short : goal.rendered_answer-requires-clause-short
+rendered_answer-requires-clause-short g c = c.in_ok-recording.ensures.ok.read.3

@@ -7,8 +7,7 @@ use Rattle.program.proofs.naming.address_name.Goals as goal
 pub of_parts-requires : goal.of_parts-requires
 of_parts-requires c =
     subst (λ (text : List ℕ). length text ≤ 7) (sym (c.as_bytes.ensures.value ∙ c.format.ensures.text))
-    (length-decimal-le 7 c.args.number (omega arith) (omega (arith, c.ranges.number.fits))
-    (omega (arith, c.ranges.number.fits)))
+    (length-decimal-le 7 c.args.number (omega arith) (omega (arith, c.requires)) (omega (arith, c.requires)))
 
 pub returns : goal.returns
 returns c =

@@ -7,5 +7,5 @@ use Rattle.recorder.proofs.reading.items_in.Given as goal
 -- what was found, and what is left gives, is what all gives
 abbrev pub invariant-loop-value : goal.invariant-loop-value
 invariant-loop-value g l =
-    with_front l.found.items (each g.T.Item.held (items_view (drop l.value-index l.list)))
-    ≡ each g.T.Item.held (items_view l.list)
+    with_front l.found.items (each g.K.Kind.held (items_view (drop l.value-index l.list)))
+    ≡ each g.K.Kind.held (items_view l.list)

@@ -18,17 +18,17 @@ loop-value-preserved g c =
     let vs = c.loop-value.found.items in
     let ws = c.push.new.self.items in
     let items = c.in-Some.items in
-    front_more (list_in g.T.Item.held) c.args.list.now c.loop-value.value-index c.value-item.result items.items
+    front_more (list_in g.K.Kind.held) c.args.list.now c.loop-value.value-index c.value-item.result items.items
     (items_of vs) (items_of ws) c.loop-value-test.true c.value-item.is
     (sym c.in_ok-items.ensures ∙ ap found_of c.in-Some.is)
     (vector_more vs ws items c.in_ok-push.ensures.items) c.loop-value.invariant
 
 pub returns-in_default : goal.returns-in_default
 returns-in_default g c =
-    front_none (list_in g.T.Item.held) c.args.list.now c.loop-value.value-index c.value-item.result
+    front_none (list_in g.K.Kind.held) c.args.list.now c.loop-value.value-index c.value-item.result
     (items_of c.loop-value.found.items) c.loop-value-test.true c.value-item.is
     (sym c.in_ok-items.ensures ∙ ap found_of c.in_default.is) c.loop-value.invariant
 
 pub returns : goal.returns
-returns g c = front_all (list_in g.T.Item.held) c.args.list.now c.loop-value.value-index
+returns g c = front_all (list_in g.K.Kind.held) c.args.list.now c.loop-value.value-index
     (items_of c.loop-value.found.items) c.loop-value-test.false c.loop-value.invariant

@@ -8,5 +8,5 @@ use Rattle.recorder.proofs.reading.lists_in.Given as goal
 abbrev pub invariant-loop-value : goal.invariant-loop-value
 invariant-loop-value g l =
     with_front (map (λ v. v.items) l.found.items)
-    (each (list_in g.T.Item.held) (items_view (drop l.value-index l.list)))
-    ≡ each (list_in g.T.Item.held) (items_view l.list)
+    (each (list_in g.K.Kind.held) (items_view (drop l.value-index l.list)))
+    ≡ each (list_in g.K.Kind.held) (items_view l.list)

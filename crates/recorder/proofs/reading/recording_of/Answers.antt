@@ -8,7 +8,7 @@ use Rattle.recorder.proofs.reading.recording_of.Goals as goal
 
 pub returns-then-not-is_versioned : goal.returns-then-not-is_versioned
 returns-then-not-is_versioned c bytes read_members =
-    version_held bytes read_members.0 read_members.2 (model_of c.args.contents) read_members.1
+    version_held c.args.size bytes read_members.0 read_members.2 (model_of c.args.contents) read_members.1
     (sym read_members.3) read_members.4
     (λ right. iff_false c.is_versioned.ensures c.if-not-is_versioned.true right)
 
@@ -18,8 +18,8 @@ returns c bytes read_members =
     let values : c.in-Ok.init.items ≡ initial_values q.values q.write_lists =
     c.in-Ok.ensures ∙ ap (λ (lists : List (Vec ℕ Global)). initial_values q.values
     (map (λ v. v.items) lists)) c.as_slice.ensures.value in
-    answers_held bytes read_members.0 read_members.2 q
-    (executed q.cores q.write_lists c.in-Ok.init.items) c.from_parts.result
+    answers_held c.args.size bytes read_members.0 read_members.2 q
+    (executed q.cores q.write_lists c.in-Ok.init.items) c.in-Ok-from_parts.read
     read_members.1 (sym read_members.3) read_members.4 (c.if-not-is_versioned.ensures.0 refl)
     (ap (λ (vs : List ℕ). executed q.cores q.write_lists vs) values)
-    c.from_parts.ensures.exact c.from_parts.ensures.ok c.from_parts.ensures.err
+    c.in-Ok-from_parts.ensures.exact c.in-Ok-from_parts.ensures.ok c.in-Ok-from_parts.ensures.err

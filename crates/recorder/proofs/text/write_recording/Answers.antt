@@ -23,10 +23,10 @@ returns c =
     record {
       text = written;
       reads_back = reads;
-      again = (
+      again = λ size recording. (
         data_of x,
         reads,
         execution_told x fits c.sound.ensures.within.initial,
-        c.sound.ensures,
+        recording,
       );
     }

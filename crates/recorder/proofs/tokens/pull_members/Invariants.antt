@@ -5,7 +5,7 @@ use Rattle.recorder.proofs.tokens.pull_members.Given as goal
 
 -- the members so far are those that were read
 abbrev pub invariant-members : goal.invariant-members
-invariant-members l = (depth : ℕ) → Reached AreParts (suc (suc (suc depth))) l.initial.reader l.reader l.read_members
+invariant-members l = (depth : ℕ) → Reached (AreParts l.size) (suc (suc (suc depth))) l.initial.reader l.reader l.read_members
 
 abbrev pub decreases-members : goal.decreases-members
 decreases-members l = length l.reader

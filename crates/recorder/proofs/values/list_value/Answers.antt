@@ -9,18 +9,18 @@ loop-item-preserved g c =
     let xs = c.args.items.now in
     let item = c.item-item.result in
     record {
-      values = values_more g.T.Item.datum xs l.item-index item item l.values.items c.push.new.self.items
+      values = values_more g.K.Kind.datum xs l.item-index item item l.values.items c.push.new.self.items
           c.in_ok-value.field-0 c.loop-item-test.true c.item-item.is l.invariant.values
           c.in_ok-value.ensures.value c.in_ok-push.ensures.items;
-      fits = fits_more g.T.Item.fits xs l.item-index item c.loop-item-test.true c.item-item.is l.invariant.fits
+      fits = fits_more g.K.Kind.fits xs l.item-index item c.loop-item-test.true c.item-item.is l.invariant.fits
           c.in_ok-value.ensures.fits;
     }
 
 pub returns-clause-value : goal.returns-clause-value
 returns-clause-value g c = view-Array c.loop-item.values
-    ∙ values_all g.T.Item.datum c.args.items.now c.loop-item.item-index c.loop-item.values.items
+    ∙ values_all g.K.Kind.datum c.args.items.now c.loop-item.item-index c.loop-item.values.items
     c.loop-item-test.false c.loop-item.invariant.values
 
 pub returns-clause-fits : goal.returns-clause-fits
 returns-clause-fits g c =
-    fits_all g.T.Item.fits c.args.items.now c.loop-item.item-index c.loop-item-test.false c.loop-item.invariant.fits
+    fits_all g.K.Kind.fits c.args.items.now c.loop-item.item-index c.loop-item-test.false c.loop-item.invariant.fits

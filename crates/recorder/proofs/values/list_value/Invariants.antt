@@ -5,6 +5,6 @@ use Rattle.recorder.proofs.values.list_value.Given as goal
 
 abbrev pub invariant-loop-item : goal.invariant-loop-item
 invariant-loop-item g l = record {
-  values : map view l.values.items ≡ map g.T.Item.datum (take l.item-index l.items);
-  fits : AllByRecursion g.T.Item.fits (take l.item-index l.items);
+  values : map view l.values.items ≡ map g.K.Kind.datum (take l.item-index l.items);
+  fits : AllByRecursion g.K.Kind.fits (take l.item-index l.items);
 }

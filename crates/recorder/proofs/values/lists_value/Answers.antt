@@ -17,20 +17,20 @@ loop-list-preserved g c =
     item_seen vs l.list-index item c.loop-list-test.true c.list-item.is in
     record {
       values = values_more
-          (list_data g.T.Item.datum) xs l.list-index item.items item.items l.values.items c.push.new.self.items
+          (list_data g.K.Kind.datum) xs l.list-index item.items item.items l.values.items c.push.new.self.items
           c.in_ok-list_value.field-0 at seen l.invariant.values
-          (c.in_ok-list_value.ensures.value ∙ ap (list_data g.T.Item.datum) c.as_slice.ensures.value)
+          (c.in_ok-list_value.ensures.value ∙ ap (list_data g.K.Kind.datum) c.as_slice.ensures.value)
           c.in_ok-push.ensures.items;
-      fits = fits_more (AllByRecursion g.T.Item.fits) xs l.list-index item.items at seen l.invariant.fits
+      fits = fits_more (AllByRecursion g.K.Kind.fits) xs l.list-index item.items at seen l.invariant.fits
           (rw c.as_slice.ensures.value at c.in_ok-list_value.ensures.fits);
     }
 
 pub returns-clause-value : goal.returns-clause-value
 returns-clause-value g c = view-Array c.loop-list.values
-    ∙ values_all (list_data g.T.Item.datum) (map (λ v. v.items) c.args.lists.now) c.loop-list.list-index
+    ∙ values_all (list_data g.K.Kind.datum) (map (λ v. v.items) c.args.lists.now) c.loop-list.list-index
     c.loop-list.values.items (rw length-map c.loop-list-test.false) c.loop-list.invariant.values
 
 pub returns-clause-fits : goal.returns-clause-fits
 returns-clause-fits g c =
-    fits_all (AllByRecursion g.T.Item.fits) (map (λ v. v.items) c.args.lists.now) c.loop-list.list-index
+    fits_all (AllByRecursion g.K.Kind.fits) (map (λ v. v.items) c.args.lists.now) c.loop-list.list-index
     (rw length-map c.loop-list-test.false) c.loop-list.invariant.fits

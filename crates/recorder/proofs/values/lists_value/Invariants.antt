@@ -7,6 +7,6 @@ use Rattle.recorder.proofs.values.lists_value.Given as goal
 abbrev pub invariant-loop-list : goal.invariant-loop-list
 invariant-loop-list g l = record {
   values : map view l.values.items
-      ≡ map (list_data g.T.Item.datum) (take l.list-index (map (λ v. v.items) l.lists));
-  fits : AllByRecursion (AllByRecursion g.T.Item.fits) (take l.list-index (map (λ v. v.items) l.lists));
+      ≡ map (list_data g.K.Kind.datum) (take l.list-index (map (λ v. v.items) l.lists));
+  fits : AllByRecursion (AllByRecursion g.K.Kind.fits) (take l.list-index (map (λ v. v.items) l.lists));
 }

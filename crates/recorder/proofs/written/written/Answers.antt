@@ -11,4 +11,4 @@ returns c =
     written_read c.args.bytes.now c.take_found.new.rest c.in-Some.found c.in-Ok.ensures.cases.1
     (subst (λ (t : List ℕ). BeginsRecording t (model_of c.in-Some.found) c.take_found.new.rest)
     c.new-rest.ensures given)
-    (c.if-not-is_at_end.ensures refl)
+    (c.if-not-is_at_end.ensures refl) c.args.size

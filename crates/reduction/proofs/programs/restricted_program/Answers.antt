@@ -3,6 +3,7 @@ use Rattle.std.specs.List.{IsDistinct}
 use Rattle.program.specs.Names.{name_eq}
 use Rattle.program.specs.Parts.{Parts, IsProgram, parts_of}
 use Rattle.program.specs.Spelling.{name_at}
+use Rattle.machine.specs.ProgramLaws.{short_of_program}
 use Rattle.machine.specs.ProgramOf.{IsProgramOf}
 use Rattle.reduction.specs.Restriction.{restriction}
 use Rattle.reduction.specs.RestrictedProgram.{restricted_program}
@@ -24,7 +25,8 @@ names_of-requires c =
     subst (λ (l : List ℕ). IsDistinct name_eq (map (name_at c.args.program.now.names) l))
     (sym (c.deref-4.ensures.value ∙ c.in_ok-addresses.ensures))
     (names_kept c.args.program.now c.args.recording.now c.args.kept.now c.sound-2.ensures.lawful
-    c.requires.program c.sound.ensures c.requires.closed)
+    c.requires.program (short_of_program c.args.program.now c.args.recording.now c.sound-2.ensures.lawful
+    c.requires.program c.sound.ensures) c.requires.closed)
 
 pub of_lawful-requires : goal.of_lawful-requires
 of_lawful-requires c =
@@ -38,7 +40,8 @@ of_lawful-requires c =
     ∙ c.in_ok-used.ensures) c.in-Ok.ensures c.in_ok-cores.ensures c.in_ok-init.ensures in
     subst (λ (p : Parts). IsProgram p) (sym made)
     (restricted_is_program c.args.program.now c.args.recording.now c.args.kept.now c.sound-2.ensures.lawful
-    c.requires.program c.sound.ensures c.requires.closed)
+    c.requires.program (short_of_program c.args.program.now c.args.recording.now c.sound-2.ensures.lawful
+    c.requires.program c.sound.ensures) c.requires.closed)
 
 pub returns-clause-program : goal.returns-clause-program
 returns-clause-program c =

@@ -22,7 +22,7 @@ unreachable-requires c =
     subst (λ (l : List ℕ). AllByRecursion IsSmall l) init c.in_ok-init.ensures.small in
     c.in-None.ensures.none refl
     (rw names (rw c.in_ok-cores.ensures.cores
-    (rw init (named_is_program x c.sound.ensures c.requires small small_init))))
+    (rw init (named_is_program x c.requires.short c.requires.numbered small small_init))))
 
 pub returns-clause-made : goal.returns-clause-made
 returns-clause-made c =

@@ -41,7 +41,7 @@ returns-clause-replay c = λ capacity room.
     let lawful : IsProgram (named_program x) =
     subst (λ (p : Parts). IsProgram p) c.in_ok-program.ensures.program c.sound-2.ensures.lawful in
     let of : IsReplayable x = record {
-      recording = c.sound.ensures;
+      recording = c.requires.short;
       small = (lawful.values, lawful.init_values);
       numbered = c.requires.numbered;
     } in

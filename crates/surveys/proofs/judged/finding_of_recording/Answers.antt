@@ -17,3 +17,6 @@ returns-in-Err c =
       is_given = record { read = c.in-Err.ensures; known = is.1 };
       finds = is.0;
     }) c.refused.ensures
+
+pub found_in-requires : goal.found_in-requires
+found_in-requires c = c.in-Ok.ensures.3.within.few_events

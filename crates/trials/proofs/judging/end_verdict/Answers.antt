@@ -9,4 +9,4 @@ returns-in-Some-clause-short c =
     let j : Judged = c.in-Some.field-0 in
     let judged : IsJudgement c.args.machine j =
     subst (λ (o : Option Judged). IsJudgedEnd c.args.machine o) c.in-Some.is c.in_ok-recording.ensures in
-    short_verdict j.recording j.verdict c.sound.ensures judged.verdict
+    short_verdict j.recording j.verdict c.sound.ensures judged.short.within.few_events judged.verdict

@@ -7,7 +7,7 @@ returns-in_default-clause-only c n b more small other is =
     let e = c.digits-end.ensures in
     let h = leads c.decimal.result c.args.text.now c.digits-end.result n b more small other is
     e.within e.before e.at c.decimal.ensures in
-    absurd (c.in_default.not-Some n (c.short.ensures.only n small h.0))
+    absurd (c.in_default.not-Some n (c.word.ensures.only n h.0))
 
 pub returns-clause-found : goal.returns-clause-found
 returns-clause-found c =
@@ -19,5 +19,5 @@ returns-clause-only c n b more small other is =
     let e = c.digits-end.ensures in
     let h = leads c.decimal.result c.args.text.now c.digits-end.result n b more small other is
     e.within e.before e.at c.decimal.ensures in
-    let number : Some c.in-Some.number ≡ Some n = c.in-Some.ensures.only n small h.0 in
+    let number : Some c.in-Some.number ≡ Some n = c.in-Some.ensures.only n h.0 in
     let same : c.in-Some.number ≡ n = cc in rw (same, h.1) refl

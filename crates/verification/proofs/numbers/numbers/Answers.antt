@@ -23,7 +23,7 @@ loop-i-preserved c =
     let pushed = c.in_ok-push.ensures.items in
     let spaced = c.in-Some.ensures.found in record {
       size = omega (arith, h.size, ap (λ (xs : List ℕ). length xs) pushed, length-append numbers (n ∷ []));
-      short = rw pushed (All-push (λ (k : ℕ). k < 2 ^ 16) numbers n h.short spaced.0);
+      short = rw pushed (All-push (λ (k : ℕ). k < 2 ^ 32) numbers n h.short spaced.0);
       text = h.text ∙ ap (λ (t : List ℕ). numbers_text numbers ++ t) spaced.1
           ∙ sym (append_assoc (numbers_text numbers) (32 ∷ decimal n) c.spaced.new.rest)
           ∙ ap (λ (t : List ℕ). t ++ c.spaced.new.rest) (sym (text_push numbers n) ∙ sym (ap numbers_text pushed));

@@ -2,7 +2,7 @@ use Rattle.std.proofs.Common.{◌≡◌, ◌++◌, ◌∷◌, [], ℕ, List, ap,
 use Rattle.std.proofs.lemmas.Bool.{false≢true}
 use Rattle.recording.specs.Tso.{IsTsoOrder}
 use Rattle.texts.specs.Numbers.{numbers_text}
-use Rattle.verification.specs.Proof.{IsRow}
+use Rattle.verification.specs.Proof.{AreNumbers}
 use Rattle.verification.proofs.Heads.{order_of, order_is_row, proof_of_order}
 use Rattle.verification.proofs.ordered.check_order.Goals as goal
 
@@ -12,7 +12,7 @@ returns-in_default c = (
   λ proof. let x = c.args.recording.now in
       let m : (m : List ℕ) × IsTsoOrder x m × (c.args.rest.now ≡ numbers_text m ++ 10 ∷ []) =
       order_of x c.args.rest.now proof in
-      let row : IsRow c.len.result m.0 = subst (λ (n : ℕ). IsRow n m.0) (sym c.len.ensures)
+      let row : AreNumbers c.len.result m.0 = subst (λ (n : ℕ). AreNumbers n m.0) (sym c.len.ensures)
       (order_is_row x m.0 c.sound.ensures.within.few_events m.1) in
       absurd (rw c.in_default.is at (c.in_ok-events.ensures.only m.0 [] row m.2).0),
 )
@@ -23,7 +23,7 @@ returns-then-not-is_tso_order c = (
   λ proof. let x = c.args.recording.now in
       let m : (m : List ℕ) × IsTsoOrder x m × (c.args.rest.now ≡ numbers_text m ++ 10 ∷ []) =
       order_of x c.args.rest.now proof in
-      let row : IsRow c.len.result m.0 = subst (λ (n : ℕ). IsRow n m.0) (sym c.len.ensures)
+      let row : AreNumbers c.len.result m.0 = subst (λ (n : ℕ). AreNumbers n m.0) (sym c.len.ensures)
       (order_is_row x m.0 c.sound.ensures.within.few_events m.1) in
       let same : c.in-Some.events.items ≡ m.0 = rw c.in-Some.is at (c.in_ok-events.ensures.only m.0 [] row m.2).0 in
       absurd (false≢true (c.if-not-is_tso_order.ensures.1
@@ -40,7 +40,7 @@ returns c =
           (found.1 ∙ ap (λ (t : List ℕ). numbers_text c.in-Some.events.items ++ 10 ∷ t) (c.end.ensures.0 is)),
       λ proof. let m : (m : List ℕ) × IsTsoOrder x m × (c.args.rest.now ≡ numbers_text m ++ 10 ∷ []) =
           order_of x c.args.rest.now proof in
-          let row : IsRow c.len.result m.0 = subst (λ (n : ℕ). IsRow n m.0) (sym c.len.ensures)
+          let row : AreNumbers c.len.result m.0 = subst (λ (n : ℕ). AreNumbers n m.0) (sym c.len.ensures)
           (order_is_row x m.0 c.sound.ensures.within.few_events m.1) in
           c.end.ensures.1 (c.in_ok-events.ensures.only m.0 [] row m.2).1,
     )

@@ -18,7 +18,7 @@ returns-then-take g c =
     subst (λ (t : List ℕ). IfOk c.check_cycle.result (λ (f : TextCheck). (f ≡ Holds) ↔ IsProof x t))
     (sym (sym c.new-rest.ensures ∙ c.if-take.ensures.found refl)) c.check_cycle.ensures in record {
       exact = exact;
-      judged = judged_holds x c.args.text.now c.sound.ensures c.every_verdict_holds.ensures c.check_cycle.result exact;
+      judged = judged_holds x c.args.text.now c.sound.ensures c.requires.few c.every_verdict_holds.ensures c.check_cycle.result exact;
     }
 
 pub returns : goal.returns
@@ -28,5 +28,5 @@ returns g c =
     subst (λ (t : List ℕ). IfOk c.check_line.result (λ (f : TextCheck). (f ≡ Holds) ↔ IsProof x t))
     (c.if-take.ensures.kept refl ∙ c.new-rest.ensures) c.check_line.ensures in record {
       exact = exact;
-      judged = judged_holds x c.args.text.now c.sound.ensures c.every_verdict_holds.ensures c.check_line.result exact;
+      judged = judged_holds x c.args.text.now c.sound.ensures c.requires.few c.every_verdict_holds.ensures c.check_line.result exact;
     }

@@ -19,7 +19,7 @@ returns-then-take c =
     (sym (sym c.new-rest.ensures ∙ c.if-take.ensures.found refl)) c.check_cycle_alone.ensures in record {
       exact = exact;
       judged =
-          judged_holds x c.args.text.now c.sound.ensures c.every_verdict_holds.ensures c.check_cycle_alone.result
+          judged_holds x c.args.text.now c.sound.ensures c.requires.few c.every_verdict_holds.ensures c.check_cycle_alone.result
           exact;
     }
 
@@ -30,5 +30,5 @@ returns c =
     subst (λ (t : List ℕ). IfOk c.check_line.result (λ (f : TextCheck). (f ≡ Holds) ↔ IsProof x t))
     (c.if-take.ensures.kept refl ∙ c.new-rest.ensures) c.check_line.ensures in record {
       exact = exact;
-      judged = judged_holds x c.args.text.now c.sound.ensures c.every_verdict_holds.ensures c.check_line.result exact;
+      judged = judged_holds x c.args.text.now c.sound.ensures c.requires.few c.every_verdict_holds.ensures c.check_line.result exact;
     }

@@ -4,6 +4,8 @@ use Rattle.common.specs.declared.limits.TheConstants.{MAX_ADDRESSES}
 use Rattle.machine.specs.Configuration.{BoundedItems, BlankSize, Configuration, state_from}
 use Rattle.machine.specs.State.{State, IsComplete}
 use Rattle.machine.specs.ProgramOf.{IsProgramOf}
+use Rattle.recording.specs.declared.size.RecordingSize.TheVariants.{Short}
+use Rattle.recording.specs.RecordingLaws.{recording_of_size}
 use Rattle.machine.proofs.InOrder.{IsInOrder}
 use Rattle.machine.proofs.Complete.{complete_is_tso}
 use Rattle.machine.proofs.Reached.{reached_data, reached_in_order}
@@ -30,7 +32,37 @@ new-requires c =
     c.self.invariant.sound.initials
     ∙ (sym c.self.invariant.sound.writes_length
     ∙ sym (length-map c.self.inside.writes.items (λ (l : BoundedItems ℕ). l.items))) in
+    recording_of_size Short _ (rw (
+      c.fill-cores.ensures.cores,
+      c.fill-cores.ensures.writes,
+      c.fill-cores.ensures.initial,
+      ap (λ (b : BlankSize). b.initial) c.self.invariant.blank_is,
+      c.lists.ensures,
+      c.as_slice.ensures.value,
+    )
+    (complete_recording p _ c.sound.ensures.lawful.few_cores c.sound.ensures.few addresses initials d end))
+
+pub returns-clause-short : goal.returns-clause-short
+returns-clause-short c =
+    let p = c.self.inside.program in
+    let d = reached_data _ _ _ _ _ c.self.invariant.reached in
+    let end = subst (λ (h : Configuration). IsComplete h.program.cores h.state) (sym c.self.view_is)
+    (c.is_complete.ensures.0 c.if-not-is_complete.false) in
+    let addresses : length (map (λ (l : BoundedItems ℕ). l.items) c.self.inside.writes.items) ≤ MAX_ADDRESSES
+    =
+    omega (
+      arith,
+      length-map c.self.inside.writes.items (λ (l : BoundedItems ℕ). l.items),
+      c.self.invariant.sound.writes_length,
+      c.sound.ensures.lawful.few_names,
+    ) in
+    let initials : length p.init
+    ≡ length (map (λ (l : BoundedItems ℕ). l.items) c.self.inside.writes.items) =
+    c.self.invariant.sound.initials
+    ∙ (sym c.self.invariant.sound.writes_length
+    ∙ sym (length-map c.self.inside.writes.items (λ (l : BoundedItems ℕ). l.items))) in
     rw (
+      c.new.ensures,
       c.fill-cores.ensures.cores,
       c.fill-cores.ensures.writes,
       c.fill-cores.ensures.initial,

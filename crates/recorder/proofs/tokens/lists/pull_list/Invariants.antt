@@ -5,8 +5,8 @@ use Rattle.recorder.proofs.tokens.lists.pull_list.Given as goal
 -- for the items so far stand those that were found
 abbrev pub invariant-items : goal.invariant-items
 invariant-items g l = (depth : ℕ) → (xs : List _)
-    × Came g.T.Item.held (suc depth) l.initial.reader xs l.reader
-    × g.T.Item.holds l.found.items xs
+    × Came g.K.Kind.held (suc depth) l.initial.reader xs l.reader
+    × g.K.Kind.holds l.size l.found.items xs
 
 abbrev pub decreases-items : goal.decreases-items
 decreases-items g l = length l.reader

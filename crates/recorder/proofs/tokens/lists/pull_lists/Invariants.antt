@@ -6,8 +6,8 @@ use Rattle.recorder.proofs.tokens.lists.pull_lists.Given as goal
 -- for the lists so far stand those that were found
 abbrev pub invariant-items : goal.invariant-items
 invariant-items g l = (depth : ℕ) → (xs : List (List _))
-    × Came (list_in g.T.Item.held) (suc (suc depth)) l.initial.reader xs l.reader
-    × g.T.Item.holds_lists (map (λ v. v.items) l.found.items) xs
+    × Came (list_in g.K.Kind.held) (suc (suc depth)) l.initial.reader xs l.reader
+    × g.K.Kind.holds_lists l.size (map (λ v. v.items) l.found.items) xs
 
 abbrev pub decreases-items : goal.decreases-items
 decreases-items g l = length l.reader

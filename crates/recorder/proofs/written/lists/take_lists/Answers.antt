@@ -11,7 +11,7 @@ returns-then-take-2 g c =
     let opens = opened c.args.rest.now c.take.new.self c.take-2.new.self (c.if-not-take.ensures.found refl)
     (c.if-take.ensures.kept refl) in
     let one = found_is _ c.in_ok-list.field-0 c.in-Some.list c.in-Some.is c.in_ok-list.ensures in
-    passed_all (list_data g.T.Item.datum) (AllByRecursion g.T.Item.fits) c.args.rest.now c.take-2.new.self
+    passed_all (list_data g.K.Kind.datum) (AllByRecursion g.K.Kind.fits) c.args.rest.now c.take-2.new.self
     c.items.rest c.take_list.new.rest c.take-in-items.new.self (map (λ w. w.items) c.items.found.items)
     (map (λ w. w.items) c.push.new.self.items) c.in-Some.list.items opens c.items.invariant one
     (c.if-take-2.ensures.found refl)
@@ -20,7 +20,7 @@ returns-then-take-2 g c =
 pub items-preserved : goal.items-preserved
 items-preserved g c =
     let one = found_is _ c.in_ok-list.field-0 c.in-Some.list c.in-Some.is c.in_ok-list.ensures in
-    passed_more (list_data g.T.Item.datum) (AllByRecursion g.T.Item.fits) c.take-2.new.self c.items.rest
+    passed_more (list_data g.K.Kind.datum) (AllByRecursion g.K.Kind.fits) c.take-2.new.self c.items.rest
     c.take_list.new.rest c.take-in-items.new.self c.take-in-items-2.new.self
     (map (λ w. w.items) c.items.found.items) (map (λ w. w.items) c.push.new.self.items) c.in-Some.list.items
     c.items.invariant one (c.if-take-2.ensures.kept refl) (c.if-not-take-2.ensures.found refl)

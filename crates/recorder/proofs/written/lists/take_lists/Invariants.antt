@@ -6,7 +6,7 @@ use Rattle.recorder.proofs.written.lists.take_lists.Given as goal
 
 -- the items so far are those that were found
 abbrev pub invariant-items : goal.invariant-items
-invariant-items g l = Passed (list_data g.T.Item.datum) (AllByRecursion g.T.Item.fits) l.initial.rest
+invariant-items g l = Passed (list_data g.K.Kind.datum) (AllByRecursion g.K.Kind.fits) l.initial.rest
     (map (λ w. w.items) l.found.items) l.rest
 
 abbrev pub decreases-items : goal.decreases-items

@@ -15,9 +15,9 @@ returns c =
     ap (λ (ns : List ℕ). length ns) c.init.ensures
     ∙ ap (λ (y : Execution). length y.initial) c.parts-parts.ensures in (
       λ yes. record {
-        few_cores = omega (arith, cores, c.if-cores-gt-MAX_CORES.false);
-        few_events = c.requires;
-        few_addresses = omega (arith, lists, c.if-writes-gt-MAX_ADDRESSES.false);
+        few_cores = omega (arith, cores, c.cores-2.ensures, c.if-cores.false);
+        few_events = omega (arith, c.len.ensures, c.events.ensures, c.if-len-events.false);
+        few_addresses = omega (arith, lists, c.addresses.ensures, c.if-writes-addresses.false);
         addresses = c.has_all_lists.ensures.0 yes;
         initial = omega (arith, values, c.if-init-writes.false, lists_again);
       },

@@ -1,5 +1,5 @@
 use Rattle.recorder.proofs.Somes.{found_is}
-use Rattle.recorder.proofs.reading.read_recording.Goals as goal
+use Rattle.recorder.proofs.reading.read_recording_of.Goals as goal
 
 pub returns-in-Some : goal.returns-in-Some
 returns-in-Some c =
@@ -12,5 +12,10 @@ returns-in-Some-parsed c =
     (found_is _ c.in-Ok-parsed_by_tokens.parsed c.in-Some-parsed.found
     c.in-Some-parsed.is c.in-Ok-parsed_by_tokens.ensures)
 
-pub returns : goal.returns
-returns c = c.recording_of-2.ensures c.args.bytes.now c.in_ok-found.ensures.found
+pub returns-in-Ok-parsed_in_tree : goal.returns-in-Ok-parsed_in_tree
+returns-in-Ok-parsed_in_tree c =
+    c.recording_of-in-Ok-parsed_in_tree.ensures c.args.bytes.now
+    (c.in-Ok-parsed_in_tree.ensures.found c.args.size)
+
+pub returns-in-Err : goal.returns-in-Err
+returns-in-Err c = c.in-Err.ensures.err c.args.size
