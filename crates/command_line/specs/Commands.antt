@@ -19,7 +19,7 @@ commands = (
       ∷ (codes "attempts", Number) ∷ (codes "buffer", Number) ∷ (codes "fault", Word) ∷ (codes "runs", Number)
       ∷ (codes "words", Nothing) ∷ [],
 )
-    ∷ (codes "judge", (codes "FILE", Place) ∷ (codes "workers", Number) ∷ (codes "words", Nothing) ∷ [])
+    ∷ (codes "judge", (codes "FILE", Place) ∷ (codes "workers", Number) ∷ (codes "long", Nothing) ∷ (codes "words", Nothing) ∷ [])
     ∷ (
       codes "trials",
       (codes "cores", Size) ∷ (codes "ops", Size) ∷ (codes "addresses", Size)

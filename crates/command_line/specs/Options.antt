@@ -7,7 +7,7 @@ use Rattle.clap.specs.declared.error.Error.{Error}
 use Rattle.clap.specs.declared.error.kind.ErrorKind.TheVariants as kinds
 use Rattle.command_line.specs.declared.options.Limits.{Limits}
 use Rattle.command_line.specs.declared.options.Options.{Options}
-use Rattle.command_line.specs.declared.options.Options.TheVariants.{Run, Judge, Trials, Live, Replay, Explain, Draw, Reduce}
+use Rattle.command_line.specs.declared.options.Options.TheVariants.{Run, Judge, JudgeLong, Trials, Live, Replay, Explain, Draw, Reduce}
 use Rattle.command_line.specs.declared.options.Options.TheVariants.{Verify, Survey, Merge, Outcomes, Complete}
 use Rattle.command_line.specs.declared.options.OutcomesOptions.{OutcomesOptions}
 use Rattle.command_line.specs.declared.options.CompleteOptions.{CompleteOptions}
@@ -75,6 +75,7 @@ pub record AreValuesAsked (v : Values) (rows : List Row) : Type 0 where
   pub complete : v.complete ≡ is_given (codes "complete") rows
   pub states : IsNumber (codes "states") STATES rows v.states
   pub unseen : v.unseen ≡ is_given (codes "unseen") rows
+  pub long : v.long ≡ is_given (codes "long") rows
   pub runs : AreRuns v.runs rows
 
 -- each option of run is its entry, or else its default
@@ -87,8 +88,9 @@ pub record AreRunOptions (o : RunOptions) (rows : List Row) : Type 0 where
   pub fault : machine_fault_of rows ≡ Some o.fault
   pub runs : AreRuns o.runs rows
 
--- each option of judge is its entry, or else its default
+-- each option of judge without --long is its entry, or else its default
 pub record AreJudgeOptions (o : JudgeOptions) (rows : List Row) : Type 0 where
+  pub short : is_given (codes "long") rows ≡ false
   pub file : first_of (codes "FILE") rows ≡ Some (string_bytes o.file)
   pub workers : IsNumber (codes "workers") WORKERS rows o.workers
 
@@ -180,6 +182,8 @@ pub record AreCompleteOptions (o : CompleteOptions) (rows : List Row) : Type 0 w
 abbrev pub AreOptionsOf : Options → Text → List Row → Type 0
 AreOptionsOf (Run o) name rows = (name ≡ codes "run") × AreRunOptions o rows
 AreOptionsOf (Judge o) name rows = (name ≡ codes "judge") × AreJudgeOptions o rows
+AreOptionsOf (JudgeLong o) name rows = (name ≡ codes "judge") × AreFileOptions o rows
+    × (is_given (codes "long") rows ≡ true)
 AreOptionsOf (Trials o) name rows = (name ≡ codes "trials") × AreTrialsOptions o rows
 AreOptionsOf (Live o) name rows = (name ≡ codes "live") × AreLiveOptions o rows
 AreOptionsOf (Replay o) name rows = (name ≡ codes "replay") × AreFileOptions o rows

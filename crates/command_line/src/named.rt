@@ -206,6 +206,9 @@ pub fn named_options(
 {
     match name {
         "run" => Ok(Options::Run(run_options(alloc, matches, values)?)),
+        "judge" if values.long => Ok(Options::JudgeLong(FileOptions {
+            file: given(alloc, matches, "FILE")?,
+        })),
         "judge" => Ok(Options::Judge(JudgeOptions {
             file: given(alloc, matches, "FILE")?,
             workers: values.workers,

@@ -82,6 +82,8 @@ pub enum Options {
     Run(RunOptions),
     /// `judge`.
     Judge(JudgeOptions),
+    /// `judge --long`.
+    JudgeLong(FileOptions),
     /// `trials`.
     Trials(TrialsOptions),
     /// `live`.
@@ -126,7 +128,7 @@ pub struct RunOptions {
     pub runs: Option<usize>,
 }
 
-/// What `judge` is asked: the name of the recording, and how many workers judge it at most.
+/// What `judge` is asked without `--long`: the name of the recording, and how many workers judge it at most.
 #[derive(Debug, Drop)]
 pub struct JudgeOptions {
     /// The name of the recording.
@@ -150,7 +152,7 @@ pub struct TrialsOptions {
     pub quiet: bool,
 }
 
-/// What `replay` is asked: the name of the recording.
+/// What `replay` and `judge --long` are asked: the name of the recording.
 #[derive(Debug, Drop)]
 pub struct FileOptions {
     /// The name of the recording.
@@ -305,6 +307,8 @@ pub enum Misfit {
     UnseenWithoutObserved,
     /// `--runs` counts random runs, and `--steps` names the steps of one.
     RunsWithSteps,
+    /// `--long` needs no thread, and `--workers` shares work among some.
+    WorkersWithLong,
 }
 
 impl Display for Misfit {
@@ -340,6 +344,9 @@ impl Display for Misfit {
                 f.write_str(
                     "error: the argument '--runs <N>' cannot be used with '--steps <FILE>'",
                 )?;
+            }
+            Misfit::WorkersWithLong => {
+                f.write_str("error: the argument '--workers <N>' cannot be used with '--long'")?;
             }
         }
         f.write_str("\n\nFor more information, try '--help'.")

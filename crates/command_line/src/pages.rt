@@ -91,7 +91,12 @@ least such store. `cycle of K` and its lines name the first shortest cycle of pa
 events that every memory order has in order, each with its reason: Po (program order), Wo
 (write order), Rf (reads-from) or Fr (from-read). The label lines show that no cycle is
 shorter. In the last two cases TSO allows no order. The answer does not depend on the
-number of workers.",
+number of workers.
+
+With `--long` a recording may have up to 16777216 events of 1024 cores over 65536 addresses;
+else 512 events of 16 cores over 16. Orders and overlooks are answered as without it. Of a
+cycle of forced pairs no event is forced before another than its next; it may not be the
+shortest, and has no labels.",
     statuses: "Exit status:
   0  TSO allows the recording
   1  an error of the command line, a file or memory, as standard error says

@@ -209,6 +209,13 @@ const COMPLETE: ArgumentRow = ArgumentRow {
     help: "Takes the lines for values, and says of each whether TSO allows it; not with --show",
 };
 
+const LONG: ArgumentRow = ArgumentRow {
+    name: "long",
+    takes: Takes::Nothing,
+    value: "",
+    help: "Takes up to 16777216 events of 1024 cores over 65536 addresses; not with --workers",
+};
+
 const QUIET: ArgumentRow = ArgumentRow {
     name: "quiet",
     takes: Takes::Nothing,
@@ -294,7 +301,7 @@ pub const COMMANDS: &[CommandRow] = &[
     },
     CommandRow {
         name: "judge",
-        arguments: &[FILE, WORKERS, WORDS],
+        arguments: &[FILE, WORKERS, LONG, WORDS],
     },
     CommandRow {
         name: "trials",

@@ -36,6 +36,7 @@ pub struct Values {
     pub complete: bool,
     pub states: usize,
     pub unseen: bool,
+    pub long: bool,
     pub runs: Option<usize>,
 }
 
@@ -149,6 +150,7 @@ pub fn read_values(matches: &ArgMatches<'_>) -> Result<Values, OptionRefusal>
         complete: flag(matches, "complete"),
         states,
         unseen: flag(matches, "unseen"),
+        long: flag(matches, "long"),
         runs,
     })
 }

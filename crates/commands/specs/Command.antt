@@ -2,16 +2,18 @@
 use Rattle.std.specs.Prelude.{◌≡◌, ◌++◌, ◌∷◌, [], ℕ, List, Option, None, Some, map, option_map, string_bytes}
 use Rattle.command_line.specs.declared.options.ExplainOptions.{ExplainOptions}
 use Rattle.command_line.specs.declared.options.Options.{Options}
-use Rattle.command_line.specs.declared.options.Options.TheVariants.{Run, Judge, Trials, Live, Replay, Explain, Draw}
+use Rattle.command_line.specs.declared.options.Options.TheVariants.{Run, Judge, JudgeLong, Trials, Live, Replay, Explain, Draw}
 use Rattle.command_line.specs.declared.options.Options.TheVariants.{Reduce, Verify, Survey, Merge, Outcomes, Complete}
 use Rattle.verdicts.specs.declared.printed.Answer.{Answer}
 use Rattle.answers.specs.declared.rendering.Rendering.TheVariants.{Words, Picture, Reduction}
 use Rattle.inputs.specs.declared.command_stop.CommandStop.{CommandStop}
 use Rattle.inputs.specs.declared.command_stop.CommandStop.TheVariants.{Refused, Failed}
 use Rattle.inputs.specs.declared.command_error.CommandError.TheVariants.{OutOfMemory}
+use Rattle.inputs.specs.Inputs.{IsInputError}
 use Rattle.inputs.specs.Named.{IsValuesStop}
+use Rattle.inputs.specs.Refusal.{IsFailure}
 use Rattle.commands.specs.Complete.{IsCompletedInput}
-use Rattle.commands.specs.Judge.{IsFileAnswer, IsJudgeError, IsVerified, IsVerifyStop}
+use Rattle.commands.specs.Judge.{IsFileAnswer, IsJudgeError, IsLongFileAnswer, IsVerified, IsVerifyStop}
 use Rattle.commands.specs.Merge.{IsMerged, IsMergeStop}
 use Rattle.commands.specs.Outcomes.{IsOutcomes, IsOutcomesStop, question_names}
 use Rattle.commands.specs.Render.{IsRendered, IsRenderingStop}
@@ -38,6 +40,7 @@ script_name (Some runs) name = None
 abbrev pub input_names : Options → List (List ℕ)
 input_names (Run o) = string_bytes o.program ∷ maybe_name (script_name o.runs (option_map string_bytes o.steps))
 input_names (Judge o) = string_bytes o.file ∷ []
+input_names (JudgeLong o) = string_bytes o.file ∷ []
 input_names (Trials o) = []
 input_names (Live o) = string_bytes o.program ∷ []
 input_names (Replay o) = string_bytes o.file ∷ []
@@ -54,6 +57,7 @@ input_names (Complete o) = string_bytes o.file ∷ []
 abbrev pub IsAnswerTo : (List ℕ → Option (List ℕ)) → Options → Answer → Type 0
 IsAnswerTo inputs (Run o) answer = IsRun inputs o answer
 IsAnswerTo inputs (Judge o) answer = IsFileAnswer inputs o answer
+IsAnswerTo inputs (JudgeLong o) answer = IsLongFileAnswer inputs o answer
 IsAnswerTo inputs (Trials o) answer = IsTrials o o.show answer
 IsAnswerTo inputs (Live o) answer = IsLive inputs o answer
 IsAnswerTo inputs (Replay o) answer = IsReplayedInput inputs o answer
@@ -71,6 +75,7 @@ abbrev pub IsCommandStop : (List ℕ → Option (List ℕ)) → Options → Comm
 IsCommandStop inputs (Run o) stop = IsRunStop inputs o (script_name o.runs (option_map string_bytes o.steps)) stop
 IsCommandStop inputs (Judge o) (Refused refusal) = ⊥
 IsCommandStop inputs (Judge o) (Failed error) = IsJudgeError inputs o error
+IsCommandStop inputs (JudgeLong o) stop = IsFailure (IsInputError inputs (string_bytes o.file)) stop
 IsCommandStop inputs (Trials o) stop = stop ≡ Failed OutOfMemory
 IsCommandStop inputs (Live o) stop = IsLiveStop inputs o stop
 IsCommandStop inputs (Replay o) stop = IsReplayStop inputs o stop

@@ -1,12 +1,13 @@
 -- What judge and verify answer.
 use Rattle.std.specs.Prelude.{◌≢◌, ◌⊎◌, ℕ, List, Option, Ok, string_bytes, ⊤}
+use Rattle.command_line.specs.declared.options.FileOptions.{FileOptions}
 use Rattle.command_line.specs.declared.options.JudgeOptions.{JudgeOptions}
 use Rattle.command_line.specs.declared.options.VerifyOptions.{VerifyOptions}
 use Rattle.recording.specs.Execution.{Execution}
 use Rattle.recorder.specs.Reading.{IsReadingResult}
 use Rattle.verdicts.specs.declared.outcome.Outcome.TheVariants.{Refused}
 use Rattle.verdicts.specs.declared.printed.Answer.{Answer}
-use Rattle.report.specs.Answer.{IsAnswerOf}
+use Rattle.report.specs.Answer.{IsAnswerOf, IsLongAnswerOf}
 use Rattle.verification.specs.Checked.{IsCheckAnswer}
 use Rattle.verification.specs.Proof.{IsProof}
 use Rattle.inputs.specs.declared.command_stop.CommandStop.{CommandStop}
@@ -25,6 +26,10 @@ AnswerHolds bytes answer = answer.outcome ≢ Refused → (x : Execution) × IsR
 abbrev pub IsFileAnswer : (List ℕ → Option (List ℕ)) → JudgeOptions → Answer → Type 0
 IsFileAnswer inputs o answer = OfBytes inputs (string_bytes o.file)
     (λ bytes. IsAnswerOf bytes answer × AnswerHolds bytes answer)
+
+-- the answer to the bytes of the named input as a long recording
+abbrev pub IsLongFileAnswer : (List ℕ → Option (List ℕ)) → FileOptions → Answer → Type 0
+IsLongFileAnswer inputs o answer = OfBytes inputs (string_bytes o.file) (λ bytes. IsLongAnswerOf bytes answer)
 
 -- why nothing is answered: the named input isn't read, or a write failed
 abbrev pub IsJudgeError : (List ℕ → Option (List ℕ)) → JudgeOptions → CommandError → Type 0

@@ -80,7 +80,7 @@ abbrev pub Puts : (Answer → Type 0) → Option (List ℕ) → Option (List ℕ
 Puts Is before after (Ok outcome) = IsPut Is before after outcome
 Puts Is before after (Err error) = error ≡ WriteFailed → IsBegun Is before after
 
--- the options are those of another command than judge
+-- the options are those of another command than judge without --long
 abbrev pub IsNoJudge : Options → Type 0
 IsNoJudge (Judge o) = ⊥
 IsNoJudge other = ⊤

@@ -13,6 +13,7 @@ ghost use Rattle.commands.specs.Survey.{TellsEach};
 use crate::complete_command::complete_command;
 use crate::judge_command::judge_command;
 use crate::live_command::live_command;
+use crate::long_command::long_command;
 use crate::merge_command::merge_command;
 use crate::outcomes_command::outcomes_command;
 use crate::output::put;
@@ -73,7 +74,7 @@ fn without_options(alloc: Global, stop: OptionStop) -> Result<Answer, CommandSto
     }
 }
 
-/// What the command answers that these options ask for, which are not those of `judge`, or of a survey that tells each
+/// What the command answers that these options ask for, which are not those of `judge` without `--long`, or of a survey that tells each
 /// recording.
 fn answer_to<R: Threads + Wait + Sync, H: Host>(
     rt: &R,
@@ -92,6 +93,7 @@ fn answer_to<R: Threads + Wait + Sync, H: Host>(
     match options {
         Options::Run(run) => run_command(alloc, run, host),
         Options::Judge(_) => unreachable!(),
+        Options::JudgeLong(long) => long_command(alloc, long, host),
         Options::Trials(trials) => trials_command(rt, alloc, trials, host),
         Options::Live(live) => live_command(rt, alloc, live, host),
         Options::Replay(replay) => replay_command(alloc, replay, host),
@@ -134,7 +136,7 @@ fn shown<H: Host>(
     }
 }
 
-/// The options of `judge`, where these are its.
+/// The options of `judge` without `--long`, where these are its.
 fn judging(options: &Options) -> Option<&JudgeOptions>
     ensures some { IfSome result (λ o. options.now ≡ Options.Judge o.now) }
     ensures none { IfNone result (IsNoJudge options.now) }

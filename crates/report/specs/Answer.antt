@@ -4,7 +4,12 @@ use Rattle.std.specs.Io.KnownBytes.{Appends, Consumes}
 use Rattle.recording.specs.declared.fault.RecError.{RecError}
 use Rattle.recording.specs.declared.recording.Recording.{Recording}
 use Rattle.recording.specs.Execution.{Execution}
-use Rattle.recorder.specs.Reading.{IsReadingResult}
+use Rattle.recording.specs.declared.size.RecordingSize.{RecordingSize}
+use Rattle.recording.specs.declared.size.RecordingSize.TheVariants.{Short, Long}
+use Rattle.recorder.specs.Reading.{IsReadingOf, IsReadingResult}
+use Rattle.long.specs.declared.answer.LongAnswer.{LongAnswer}
+use Rattle.long.specs.Answer.{IsLongAnswer}
+use Rattle.long.specs.Texts.{IsLongText, long_outcome}
 use Rattle.verdicts.specs.declared.printed.Answer.{Answer}
 use Rattle.verdicts.specs.declared.outcome.Outcome.{Outcome}
 use Rattle.verdicts.specs.declared.outcome.Outcome.TheVariants.{Refused}
@@ -14,22 +19,31 @@ use Rattle.verdicts.specs.Judgement.{IsVerdict}
 use Rattle.verdicts.specs.VerdictAnswer.{outcome_of}
 use Rattle.verdicts.specs.VerdictText.{IsVerdictText}
 
--- the refusal that the bytes have, and its line
-pub record IsRefusedAnswer (bytes : List ℕ) (answer : Answer) : Type 0 where
+-- the refusal that the bytes have as a recording of a size, and its line
+pub record IsRefusedOf (size : RecordingSize) (bytes : List ℕ) (answer : Answer) : Type 0 where
   pub fault : RecError
-  pub read : IsReadingResult bytes (Err fault)
+  pub read : IsReadingOf size bytes (Err fault)
   pub outcome : answer.outcome ≡ Refused
   pub line : recording_line fault ≡ Some answer.text.items
 
--- the recording that the bytes are, or the answer to their refusal
-abbrev pub IsReadOrRefused : List ℕ → Result Recording Answer → Type 0
-IsReadOrRefused bytes (Ok recording) = IsReadingResult bytes (Ok recording)
-IsReadOrRefused bytes (Err answer) = IsRefusedAnswer bytes answer
+-- the refusal that the bytes have as a short recording, and its line
+abbrev pub IsRefusedAnswer : List ℕ → Answer → Type 0
+IsRefusedAnswer bytes answer = IsRefusedOf Short bytes answer
+
+-- the recording of a size that the bytes are, or the answer to their refusal
+abbrev pub IsReadOrRefused : RecordingSize → List ℕ → Result Recording Answer → Type 0
+IsReadOrRefused size bytes (Ok recording) = IsReadingOf size bytes (Ok recording)
+IsReadOrRefused size bytes (Err answer) = IsRefusedOf size bytes answer
 
 -- what is answered to the bytes: the text of the verdict on the recording that they are, or their refusal
 abbrev pub IsAnswerOf : List ℕ → Answer → Type 0
 IsAnswerOf bytes answer = ((x : Execution) × IsReadingResult bytes (Ok x) × (verdict : Verdict) × IsVerdict x verdict
     × (answer.outcome ≡ outcome_of verdict) × IsVerdictText x verdict answer.text.items) ⊎ IsRefusedAnswer bytes answer
+
+-- what is answered to the bytes as a long recording: the text of an answer to the recording that they are, or their refusal
+abbrev pub IsLongAnswerOf : List ℕ → Answer → Type 0
+IsLongAnswerOf bytes answer = ((x : Execution) × IsReadingOf Long bytes (Ok x) × (found : LongAnswer) × IsLongAnswer x found
+    × (answer.outcome ≡ long_outcome found) × IsLongText x found answer.text.items) ⊎ IsRefusedOf Long bytes answer
 
 -- such an answer was written, whole, and this is its outcome
 abbrev pub IsPut : (Answer → Type 0) → Option (List ℕ) → Option (List ℕ) → Outcome → Type 0

@@ -4,25 +4,33 @@ ghost use Rattle.std.specs.Prelude.{◌≡◌, ◌≢◌, ◌≤◌, ℕ, List, 
 ghost use Rattle.std.specs.Io.KnownBytes.{Consumes, IsAtEnd};
 ghost use Rattle.devices.specs.Bytes.{CanGrow, CountsBy};
 ghost use Rattle.report.specs.declared.error.ReportError.{ReportError};
-ghost use Rattle.report.specs.Answer.{IsAnswerOf, IsBegun, IsPut, IsReadOrRefused};
+ghost use Rattle.recording.specs.declared.size.RecordingSize.TheVariants.{Short};
+ghost use Rattle.report.specs.Answer.{IsAnswerOf, IsBegun, IsLongAnswerOf, IsPut, IsReadOrRefused};
 ghost use Rattle.report.specs.Errors.{report_failed_reads, report_failed_writes};
 
 use crate::error::ReportError;
 use common::{Gate, MAX_WORKERS, OutOfMemory};
 use devices::{Failed, ReadError, Sink, Source, read_all, write_all};
 use judge::{judge_alone, judge_gated};
-use recorder::read_recording;
-use recording::Recording;
+use long::{judge_long, long_text};
+use recorder::read_recording_of;
+use recording::{Recording, RecordingSize};
+use relations::Places;
 use std::alloc::Global;
 use std::sync::Wait;
 use std::thread::Threads;
 use verdicts::{Answer, Outcome, recording_line, verdict_answer};
 
-/// The recording that the bytes are, or what is answered to them, since they are refused. Fails only if out of memory.
-pub fn read_or_refuse(alloc: Global, bytes: &[u8]) -> Result<Result<Recording, Answer>, OutOfMemory>
-    ensures { IfOk result (IsReadOrRefused bytes.now) }
+/// The recording of a size that the bytes are, or what is answered to them, since they are refused. Fails only if out of
+/// memory.
+fn read_or_refuse_of(
+    alloc: Global,
+    bytes: &[u8],
+    size: RecordingSize,
+) -> Result<Result<Recording, Answer>, OutOfMemory>
+    ensures { IfOk result (IsReadOrRefused size bytes.now) }
 {
-    match read_recording(alloc, bytes) {
+    match read_recording_of(alloc, bytes, size) {
         Ok(recording) => Ok(Ok(recording)),
         Err(refusal) => match recording_line(alloc, refusal)? {
             Some(line) => Ok(Err(Answer {
@@ -31,6 +39,29 @@ pub fn read_or_refuse(alloc: Global, bytes: &[u8]) -> Result<Result<Recording, A
             })),
             None => Err(OutOfMemory),
         },
+    }
+}
+
+/// The recording that the bytes are, or what is answered to them, since they are refused. Fails only if out of memory.
+pub fn read_or_refuse(alloc: Global, bytes: &[u8]) -> Result<Result<Recording, Answer>, OutOfMemory>
+    ensures { IfOk result (IsReadOrRefused Short bytes.now) }
+{
+    read_or_refuse_of(alloc, bytes, RecordingSize::Short)
+}
+
+/// The text of the answer to the recording of any length that the bytes are, or the line of their refusal: an order, the
+/// least overlook, or a cycle of forced pairs of which no event is forced before another than its next. It does not
+/// block and starts no thread. Fails only if out of memory.
+pub fn long_answer(alloc: Global, bytes: &[u8]) -> Result<Answer, OutOfMemory>
+    ensures { IfOk result (IsLongAnswerOf bytes.now) }
+{
+    match read_or_refuse_of(alloc, bytes, RecordingSize::Long)? {
+        Ok(recording) => {
+            let places = Places::of(alloc, &recording)?;
+            let found = judge_long(alloc, &places)?;
+            long_text(alloc, &places, &found)
+        }
+        Err(refused) => Ok(refused),
     }
 }
 

@@ -10,6 +10,8 @@ mod judged;
 #[cfg(test)]
 mod lasting;
 #[cfg(test)]
+mod long;
+#[cfg(test)]
 mod meetings;
 #[cfg(test)]
 mod memory;

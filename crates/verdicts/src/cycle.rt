@@ -58,8 +58,12 @@ fn put_pair(
     put_reason(out, first, second, places.forced_reason(first, second))
 }
 
-/// Adds a line for each pair of neighbours.
-fn put_pairs(out: &mut Vec<u8>, places: &Places<'_>, cycle: &[EventId]) -> Result<(), OutOfMemory>
+/// Adds a line for each pair of neighbours of a cycle, with its first reason. Fails only if out of memory.
+pub fn put_pairs(
+    out: &mut Vec<u8>,
+    places: &Places<'_>,
+    cycle: &[EventId],
+) -> Result<(), OutOfMemory>
     requires { IsCycle (Forced places.now) cycle.now }
     ensures { OnOk result ((lines : List ℕ) × ArePairLines places.now cycle.now (length cycle.now) lines
         × (out.new.items ≡ out.old.items ++ lines)) }

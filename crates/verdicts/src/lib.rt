@@ -8,8 +8,9 @@ mod refusal;
 mod text;
 mod verdict;
 
+pub use cycle::put_pairs;
 pub use outcome::Outcome;
 pub use printed::{Answer, outcome_of, verdict_answer};
 pub use refusal::recording_line;
-pub use text::{put_overlook, verdict_text};
+pub use text::{put_order, put_overlook, verdict_text};
 pub use verdict::Verdict;

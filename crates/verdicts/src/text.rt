@@ -12,8 +12,8 @@ use relations::Places;
 use std::alloc::Global;
 use texts::{put_number, put_numbers};
 
-/// Adds the line of an order.
-fn put_order(out: &mut Vec<u8>, order: &[EventId]) -> Result<(), OutOfMemory>
+/// Adds the line of an order. Fails only if out of memory.
+pub fn put_order(out: &mut Vec<u8>, order: &[EventId]) -> Result<(), OutOfMemory>
     ensures { OnOk result (out.new.items ≡ out.old.items ++ order_line order.now) }
 {
     out.extend_from_slice(b"ordered:")?;

@@ -1,0 +1,14 @@
+pub mod Steps
+pub mod Lists
+pub mod Follow
+pub mod Newer
+pub mod Cuts
+pub mod Closing
+pub mod Chained
+pub mod Weights
+pub mod Keys
+pub mod Counted
+pub mod Back
+pub mod Sorts
+pub mod Rests
+pub mod Befores

@@ -1,0 +1,135 @@
+-- The events that stand right before others.
+use Rattle.std.proofs.Common.{◌≡◌, ◌<◌, ◌≤◌, ◌+◌, ◌-◌, ◌⊎◌, inl, inr, ℕ, Bool, true, false, cond, List}
+use Rattle.std.proofs.Common.{Some, None, get_or, length, arith, sym, ap, subst, ◌∙◌}
+use Rattle.std.proofs.lemmas.Bool.{cases_eq}
+use Rattle.recording.specs.Execution.{Execution, event_count, event_at, write_list, Reads, Writes, source_of}
+use Rattle.recording.specs.Order.{place}
+use Rattle.recording.specs.OrderLaws.{place_in}
+use Rattle.recording.specs.PlaceLaws.{at_place, times_at, place_at}
+use Rattle.recording.specs.EventLaws.{Writes-event}
+use Rattle.recording.specs.Tso.{IsWellFormed}
+use Rattle.relations.specs.declared.indexed.IndexedEvent.{IndexedEvent}
+use Rattle.relations.specs.Direct.{is_passed, IsFirstNewer, IsNextWrite}
+use Rattle.relations.specs.Forced.{IsNewerFrom}
+use Rattle.relations.specs.Indexed.{IsIndexed}
+use Rattle.long.specs.Steps.{IsLast}
+
+-- the last event before the next is this one, or it was the last before this one, which is passed over
+pub last_split : (x : Execution) (loads : Bool) (d e : ℕ) → IsLast x loads d (e + 1)
+    → ((d ≡ e) × (is_passed loads (event_at x e) ≡ false)) ⊎ ((is_passed loads (event_at x e) ≡ true) × IsLast x loads d e)
+last_split x loads d e h = elim (cases_eq d e) [
+  | inl one ↦ inl (one, subst (λ (g : ℕ). is_passed loads (event_at x g) ≡ false) one h.1)
+  | inr other ↦
+      let low : d < e = (let l : d < e + 1 = h.0 in omega (arith, l, other)) in
+      inr (h.2 e low (omega arith), (low, h.1, (λ g after before. h.2 g after (omega (arith, before)))))
+]
+
+-- so the next is the last, unless it is passed over
+pub last_next : (x : Execution) (loads : Bool) (n last new : ℕ) (passed : Bool) → passed ≡ is_passed loads (event_at x n)
+    → new ≡ cond passed last n → ((d : ℕ) → IsLast x loads d n → last ≡ d) → (d : ℕ) → IsLast x loads d (n + 1)
+    → new ≡ d
+last_next x loads n last new passed is made was d h = elim (last_split x loads d n h) [
+  | inl here ↦ made ∙ ap (λ (b : Bool). cond b last n) (is ∙ here.1) ∙ sym here.0
+  | inr before ↦ made ∙ ap (λ (b : Bool). cond b last n) (is ∙ before.0) ∙ was d before.1
+]
+
+-- each read has one first newer write, which is an event
+pub one_newer : (x : Execution) → IsWellFormed x → (r v w : ℕ) → IsFirstNewer x r v → IsFirstNewer x r w → v ≡ w
+one_newer x wf r v w hv hw =
+    let one : hv.0 ≡ hw.0 = (let both : Some hv.0 ≡ Some hw.0 = sym hv.1 ∙ hw.1 in cc) in
+    let b : ℕ = hw.0 in
+    let ws : List ℕ = write_list x b in
+    let wv : Writes x v b = subst (λ (a : ℕ). Writes x v a) one hv.2 in
+    let fv : IsNewerFrom ws (source_of x r) (place ws v) =
+    subst (λ (a : ℕ). IsNewerFrom (write_list x a) (source_of x r) (place (write_list x a) v)) one hv.3 in
+    let fw : IsNewerFrom ws (source_of x r) (place ws w) = hw.3 in
+    let iv : place ws v < length ws = place_in ws v (omega (arith, (wf.write_lists b).once v wv)) in
+    let iw : place ws w < length ws = place_in ws w (omega (arith, (wf.write_lists b).once w hw.2)) in
+    let low : place ws v ≤ place ws w = (fv w iw).0 ((fw w iw).1 (omega arith)) in
+    let high : place ws w ≤ place ws v = (fw v iv).0 ((fv v iv).1 (omega arith)) in
+    let same : place ws v ≡ place ws w = omega (arith, low, high) in
+    sym (at_place ws v iv) ∙ (ap (λ (i : ℕ). get_or ws i 0) same ∙ at_place ws w iw)
+
+-- the write at the first newer place is the first newer one
+pub newer_at : (x : Execution) (p : IndexedEvent) (a : ℕ) (ws : List ℕ) → IsIndexed x p → p.reads ≡ Some a
+    → ws ≡ write_list x a → p.newer < length ws
+    → IsFirstNewer x p.number (get_or ws p.newer 0) × (get_or ws p.newer 0 < event_count x)
+newer_at x p a ws hp is list low =
+    subst (λ (vs : List ℕ). p.newer < length vs → IsFirstNewer x p.number (get_or vs p.newer 0)
+    × (get_or vs p.newer 0 < event_count x)) (sym list) there low
+  where
+    there : p.newer < length (write_list x a) → IsFirstNewer x p.number (get_or (write_list x a) p.newer 0)
+        × (get_or (write_list x a) p.newer 0 < event_count x)
+    there h =
+        let reads : Reads x p.number a = sym hp.reads ∙ is in
+        let lists = hp.well_formed.write_lists a in
+        let writes : Writes x (get_or (write_list x a) p.newer 0) a =
+        lists.nothing_else (get_or (write_list x a) p.newer 0) (times_at (write_list x a) p.newer h) in
+        let at : place (write_list x a) (get_or (write_list x a) p.newer 0) ≡ p.newer =
+        place_at (write_list x a) p.newer h
+        (omega (arith, lists.once (get_or (write_list x a) p.newer 0) writes)) in (
+          (
+            a,
+            reads,
+            writes,
+            subst (λ (n : ℕ). IsNewerFrom (write_list x a) (source_of x p.number) n) (sym at)
+                (hp.newer a reads),
+          ),
+          Writes-event x (get_or (write_list x a) p.newer 0) a writes,
+        )
+
+-- where there is a first newer write, the first newer place is one of its list
+pub newer_there : (x : Execution) (p : IndexedEvent) (a w : ℕ) (ws : List ℕ) → IsIndexed x p → p.reads ≡ Some a
+    → ws ≡ write_list x a → IsFirstNewer x p.number w → p.newer < length ws
+newer_there x p a w ws hp is list h =
+    let one : h.0 ≡ a = (let both : Some h.0 ≡ Some a = sym h.1 ∙ (sym hp.reads ∙ is) in cc) in
+    let writes : Writes x w a = subst (λ (b : ℕ). Writes x w b) one h.2 in
+    let from : IsNewerFrom (write_list x a) (source_of x p.number) (place (write_list x a) w) =
+    subst (λ (b : ℕ). IsNewerFrom (write_list x b) (source_of x p.number) (place (write_list x b) w)) one h.3 in
+    let inside : place (write_list x a) w < length (write_list x a) =
+    place_in (write_list x a) w (omega (arith, (hp.well_formed.write_lists a).once w writes)) in
+    let low : p.newer ≤ place (write_list x a) w =
+    (hp.newer a (sym hp.reads ∙ is) w inside).0 ((from w inside).1 (omega arith)) in
+    omega (arith, low, inside, ap (λ (vs : List ℕ). length vs) list)
+
+-- what does not read has no first newer write
+pub newer_none : (x : Execution) (p : IndexedEvent) (w : ℕ) → IsIndexed x p → p.reads ≡ None
+    → IsFirstNewer x p.number w → ⊥
+newer_none x p w hp is h = let no : None ≡ Some h.0 = sym is ∙ (hp.reads ∙ h.1) in cc
+
+-- the write before a write stands before it
+pub write_before_at : (x : Execution) (p : IndexedEvent) (a d : ℕ) (ws : List ℕ) → IsIndexed x p → p.writes ≡ Some a
+    → ws ≡ write_list x a → IsNextWrite x d p.number → get_or ws (p.place - 1) 0 ≡ d
+write_before_at x p a d ws hp is list h =
+    let here : Writes x p.number a = sym hp.writes ∙ is in
+    let one : h.0 ≡ a = (let both : Some h.0 ≡ Some a = sym h.2 ∙ here in cc) in
+    let writes : Writes x d a = subst (λ (b : ℕ). Writes x d b) one h.1 in
+    let next : place (write_list x a) p.number ≡ place (write_list x a) d + 1 =
+    subst (λ (b : ℕ). place (write_list x b) p.number ≡ place (write_list x b) d + 1) one h.3 in
+    let inside : place (write_list x a) d < length (write_list x a) =
+    place_in (write_list x a) d (omega (arith, (hp.well_formed.write_lists a).once d writes)) in
+    let at : p.place - 1 ≡ place (write_list x a) d = omega (arith, hp.place a here, next) in
+    ap (λ (vs : List ℕ). get_or vs (p.place - 1) 0) list
+    ∙ (ap (λ (i : ℕ). get_or (write_list x a) i 0) at ∙ at_place (write_list x a) d inside)
+
+-- and its place is one of the list
+pub place_low : (x : Execution) (p : IndexedEvent) (a : ℕ) (ws : List ℕ) → IsIndexed x p → p.writes ≡ Some a
+    → ws ≡ write_list x a → p.place < length ws
+place_low x p a ws hp is list =
+    let here : Writes x p.number a = sym hp.writes ∙ is in
+    omega (
+      arith,
+      hp.place a here,
+      place_in (write_list x a) p.number (omega (arith, (hp.well_formed.write_lists a).once p.number here)),
+      ap (λ (vs : List ℕ). length vs) list,
+    )
+
+-- the first write of a list has none before it
+pub first_write : (x : Execution) (p : IndexedEvent) (a d : ℕ) → IsIndexed x p → p.writes ≡ Some a → p.place ≡ 0
+    → IsNextWrite x d p.number → ⊥
+first_write x p a d hp is first h =
+    let here : Writes x p.number a = sym hp.writes ∙ is in
+    let one : h.0 ≡ a = (let both : Some h.0 ≡ Some a = sym h.2 ∙ here in cc) in
+    let next : place (write_list x a) p.number ≡ place (write_list x a) d + 1 =
+    subst (λ (b : ℕ). place (write_list x b) p.number ≡ place (write_list x b) d + 1) one h.3 in
+    omega (arith, hp.place a here, next, first)

@@ -1,0 +1,10 @@
+pub mod Steps
+pub mod Chains
+pub mod Linked
+pub mod Ready
+pub mod Walks
+pub mod Sorted
+pub mod Critical
+pub mod Newest
+pub mod Answer
+pub mod Texts

@@ -1,0 +1,16 @@
+-- The events that wait for no other, in a heap.
+use Rattle.std.specs.Prelude.{◌≡◌, ◌<◌, ◌^◌, ◌-◌, ◌==◌, ℕ, List, length, slice_index}
+use Rattle.std.specs.BinaryHeap.{IsHeap}
+use Rattle.std.specs.Ordering.{nat_cmp}
+use Rattle.recording.specs.Order.{times}
+use Rattle.order.specs.Open.{one_if}
+
+-- the key of an event: the less the event, the greater its key
+abbrev pub key_of : ℕ → ℕ
+key_of e = 2 ^ 32 - 1 - e
+
+-- the keys of the events whose count is 1
+pub record IsReady (counts keys : List ℕ) : Type 0 where
+  pub few : length counts < 2 ^ 32
+  pub heap : IsHeap nat_cmp keys
+  pub each : (e : ℕ) → e < 2 ^ 32 → times keys (key_of e) ≡ one_if (slice_index counts e == 1)

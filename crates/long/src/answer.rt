@@ -1,0 +1,42 @@
+//! The answer to a recording.
+
+ghost use Rattle.std.specs.Prelude.{IfOk};
+ghost use Rattle.long.specs.Answer.{IsLongAnswer};
+
+use crate::cut::cut;
+use crate::newest::overlook;
+use crate::sorting::{Sorted, sort};
+use common::{EventId, OutOfMemory};
+use relations::{Places, forced_is_exact, ordered_is_acyclic};
+use std::alloc::Global;
+
+/// What is answered to a recording.
+#[derive(Debug, Drop)]
+pub enum LongAnswer {
+    /// The first memory order of TSO in dictionary order that explains it.
+    Order(Vec<EventId>),
+    /// The least read that overlooks a store of its own core, and the least store that it overlooks.
+    Overlook(EventId, EventId),
+    /// A cycle of forced pairs of which no event is forced before another than its next.
+    Cycle(Vec<EventId>),
+}
+
+/// Whether TSO allows the recording with these places, with what shows it: its least overlook if there is one, else a
+/// cycle of forced pairs of which no event is forced before another than its next, if there is one, else its first memory
+/// order of TSO in dictionary order (Nagarajan, Sorin, Hill and Wood, A Primer on Memory Consistency and Cache Coherence,
+/// second edition, chapter 4). Other cycles may be shorter. The time is nearly linear in the number of events, which no
+/// clause says. It does not block. Fails only if out of memory.
+pub fn judge_long(alloc: Global, places: &Places<'_>) -> Result<LongAnswer, OutOfMemory>
+    ensures { IfOk result (IsLongAnswer places.now) }
+{
+    places.sound();
+    forced_is_exact();
+    ordered_is_acyclic();
+    if let Some((load, store)) = overlook(alloc, places)? {
+        return Ok(LongAnswer::Overlook(load, store));
+    }
+    match sort(alloc, places)? {
+        Sorted::Ordered(order) => Ok(LongAnswer::Order(order)),
+        Sorted::Cyclic(cycle) => Ok(LongAnswer::Cycle(cut(alloc, places, &cycle)?)),
+    }
+}

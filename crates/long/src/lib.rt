@@ -1,0 +1,16 @@
+//! The answer to a recording of any length, in nearly linear time, and its text.
+#![tactic(auto)]
+
+mod answer;
+mod cut;
+mod linking;
+mod newest;
+mod open;
+mod pairs;
+mod sorting;
+mod text;
+mod waiting;
+mod walking;
+
+pub use answer::{LongAnswer, judge_long};
+pub use text::long_text;

@@ -1,0 +1,200 @@
+//! The forced pairs from which all others follow.
+
+ghost use Rattle.std.specs.Prelude.{◌≡◌, ◌≤◌, ◌<◌, ◌*◌, ℕ, Some, Bool, cond, IfOk, MatchOption, length};
+ghost use Rattle.recording.specs.Execution.{Execution, event_count, source_of};
+ghost use Rattle.relations.specs.Direct.{IsFirstNewer, IsNextWrite};
+ghost use Rattle.long.specs.Chains.{times_kept};
+ghost use Rattle.long.specs.Linked.{IsLinked};
+ghost use Rattle.long.specs.Steps.{IsStep};
+
+use crate::pairs::Pairs;
+use common::{EventId, OutOfMemory};
+use relations::Places;
+use std::alloc::Global;
+
+/// Pairs, and for each event one more than how often it is the second of one.
+#[derive(Drop)]
+pub(crate) struct Linked {
+    pub(crate) pairs: Pairs,
+    pub(crate) counts: Vec<u32>,
+}
+
+/// The source of an event; the event itself where it has none.
+fn source_or_self(places: &Places<'_>, event: EventId) -> EventId
+    requires { event < event_count places.now }
+    ensures { (d : ℕ) → source_of places.now event ≡ Some d → result ≡ d }
+{
+    let placed = places.event(event as usize);
+    match placed.source {
+        Some(source) => source,
+        None => event,
+    }
+}
+
+/// The write before an event in its write list; the event itself where there is none.
+fn write_before(places: &Places<'_>, event: EventId) -> EventId
+    requires { event < event_count places.now }
+    ensures { (d : ℕ) → IsNextWrite places.now d event → result ≡ d }
+{
+    places.sound();
+    let placed = places.event(event as usize);
+    let Some(address) = placed.writes else {
+        return event;
+    };
+    let place = placed.place as usize;
+    if place == 0 {
+        return event;
+    }
+    let list = places.write_list(address);
+    list[place - 1]
+}
+
+/// The first write that is newer than the source of an event, if it reads and there is one.
+fn first_newer(places: &Places<'_>, event: EventId) -> Option<EventId>
+    requires { event < event_count places.now }
+    ensures { MatchOption result ((w : ℕ) → ¬ IsFirstNewer places.now event w)
+        (λ w. (v : ℕ) → IsFirstNewer places.now event v → v ≡ w) }
+{
+    places.sound();
+    let placed = places.event(event as usize);
+    let Some(address) = placed.reads else {
+        return None;
+    };
+    let list = places.write_list(address);
+    let newer = placed.newer as usize;
+    if newer < list.len() {
+        Some(list[newer])
+    } else {
+        None
+    }
+}
+
+/// An event, or the last one where it is passed over.
+fn last_of(is_passed: bool, last: EventId, event: EventId) -> EventId
+    ensures { result ≡ cond is_passed last event }
+{
+    if is_passed { last } else { event }
+}
+
+impl Linked {
+    ghost use Rattle.std.specs.Prelude.{◌≡◌, ◌≤◌, ◌<◌, ◌+◌, ◌^◌, ℕ, true, false, IfOk, OnOk, length};
+    ghost use Rattle.recording.specs.Execution.{event_count};
+    ghost use Rattle.relations.specs.Direct.{IsFirstNewer};
+    ghost use Rattle.relations.specs.Forced.{Forced};
+    ghost use Rattle.long.specs.Chains.{times_kept, HasPairMore};
+    ghost use Rattle.long.specs.Linked.{IsCounted, IsLinked, IsRightBefore, KeepsPairs};
+    ghost use Rattle.long.specs.Steps.{IsLast};
+
+    /// No pair of the events of a recording.
+    fn none(alloc: Global, places: &Places<'_>) -> Result<Linked, OutOfMemory>
+        ensures linked { IfOk result (IsLinked places.now) }
+        ensures few { IfOk result (λ l. length l.pairs.links ≡ 0) }
+    {
+        let pairs = Pairs::none(alloc, places.len())?;
+        let counts = vec![in alloc; 1; places.len()]?;
+        Ok(Linked { pairs, counts })
+    }
+
+    /// Puts a pair, and counts it.
+    fn put(&mut self, first: EventId, second: EventId) -> Result<(), OutOfMemory>
+        requires first { first < length self.old.pairs.heads }
+        requires second { second < length self.old.pairs.heads }
+        requires few { length self.old.pairs.links + 2 < 2 ^ 32 }
+        requires counted { IsCounted self.old }
+        ensures counted { OnOk result (IsCounted self.new) }
+        ensures more { OnOk result (HasPairMore first second self.old.pairs self.new.pairs) }
+    {
+        let count = self.counts[second as usize];
+        self.pairs.put(first, second)?;
+        self.counts[second as usize] = count + 1;
+        Ok(())
+    }
+
+    /// Puts a pair, if it is forced.
+    fn put_forced(
+        &mut self,
+        places: &Places<'_>,
+        first: EventId,
+        second: EventId,
+    ) -> Result<(), OutOfMemory>
+        requires few { length self.old.pairs.links + 2 < 2 ^ 32 }
+        requires linked { IsLinked places.now self.old }
+        ensures few { OnOk result (length self.new.pairs.links ≤ length self.old.pairs.links + 1) }
+        ensures linked { OnOk result (IsLinked places.now self.new) }
+        ensures kept { OnOk result (KeepsPairs self.old self.new) }
+        ensures here { OnOk result (Forced places.now first second → 0 < times_kept self.new.pairs first second) }
+    {
+        places.sound();
+        if places.forces(first, second) {
+            self.put(first, second)?;
+        }
+        Ok(())
+    }
+
+    /// Puts the forced pairs of which an event is the second, but for those of reads that it is newer for. Two events
+    /// are given: the last before it that is no plain load, and no plain store, where there are such.
+    fn put_before(
+        &mut self,
+        places: &Places<'_>,
+        event: EventId,
+        nonload: EventId,
+        nonstore: EventId,
+    ) -> Result<(), OutOfMemory>
+        requires event { event < event_count places.now }
+        requires nonload { (d : ℕ) → IsLast places.now true d event → nonload ≡ d }
+        requires nonstore { (d : ℕ) → IsLast places.now false d event → nonstore ≡ d }
+        requires few { length self.old.pairs.links + 5 < 2 ^ 32 }
+        requires linked { IsLinked places.now self.old }
+        ensures few { OnOk result (length self.new.pairs.links ≤ length self.old.pairs.links + 4) }
+        ensures linked { OnOk result (IsLinked places.now self.new) }
+        ensures kept { OnOk result (KeepsPairs self.old self.new) }
+        ensures before { OnOk result ((d : ℕ) → IsRightBefore places.now d event → Forced places.now d event
+            → 0 < times_kept self.new.pairs d event) }
+    {
+        self.put_forced(places, nonload, event)?;
+        self.put_forced(places, nonstore, event)?;
+        let source = source_or_self(places, event);
+        self.put_forced(places, source, event)?;
+        let write = write_before(places, event);
+        self.put_forced(places, write, event)?;
+        Ok(())
+    }
+
+    /// Puts the pair of an event and the first write that is newer than its source, if there is one and it is forced.
+    fn put_newer(&mut self, places: &Places<'_>, event: EventId) -> Result<(), OutOfMemory>
+        requires event { event < event_count places.now }
+        requires few { length self.old.pairs.links + 2 < 2 ^ 32 }
+        requires linked { IsLinked places.now self.old }
+        ensures few { OnOk result (length self.new.pairs.links ≤ length self.old.pairs.links + 1) }
+        ensures linked { OnOk result (IsLinked places.now self.new) }
+        ensures kept { OnOk result (KeepsPairs self.old self.new) }
+        ensures newer { OnOk result ((w : ℕ) → IsFirstNewer places.now event w → Forced places.now event w
+            → 0 < times_kept self.new.pairs event w) }
+    {
+        match first_newer(places, event) {
+            Some(write) => self.put_forced(places, event, write),
+            None => Ok(()),
+        }
+    }
+}
+
+/// The forced pairs of a recording from which all others follow where no read overlooks a store, at most five for each
+/// event.
+pub(crate) fn link_all(alloc: Global, places: &Places<'_>) -> Result<Linked, OutOfMemory>
+    ensures few { IfOk result (λ l. length l.pairs.links ≤ 5 * event_count places.now) }
+    ensures linked { IfOk result (IsLinked places.now) }
+    ensures enough { IfOk result (λ l. (d e : ℕ) → IsStep places.now d e → 0 < times_kept l.pairs d e) }
+{
+    places.sound();
+    let mut linked = Linked::none(alloc, places)?;
+    let mut nonload = 0;
+    let mut nonstore = 0;
+    for number in 0..places.len() as EventId {
+        linked.put_before(places, number, nonload, nonstore)?;
+        linked.put_newer(places, number)?;
+        let event = places.event(number as usize);
+        nonload = last_of(event.is_load, nonload, number);
+        nonstore = last_of(event.is_store, nonstore, number);
+    }
+    Ok(linked)
+}
