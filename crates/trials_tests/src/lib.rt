@@ -8,9 +8,9 @@ mod desks;
 #[cfg(test)]
 mod judged;
 #[cfg(test)]
-mod lasting;
+mod judged_twice;
 #[cfg(test)]
-mod long;
+mod lasting;
 #[cfg(test)]
 mod meetings;
 #[cfg(test)]
