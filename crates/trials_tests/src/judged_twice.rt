@@ -61,9 +61,11 @@ fn judged_twice(alloc: Global, recording: &Recording, mut ends: Ends) -> Result<
 fn tried_twice(alloc: Global, plan: &Campaign, k: usize, ends: Ends) -> Result<Ends, OutOfMemory>
     requires { k < plan.now.trials }
 {
-    match reproduce(alloc, plan, k)? {
-        (_, Some(recording)) => judged_twice(alloc, &recording, ends),
-        (_, None) => Ok(ends),
+    let (program, recording) = reproduce(alloc, plan, k)?;
+    drop(program);
+    match recording {
+        Some(recording) => judged_twice(alloc, &recording, ends),
+        None => Ok(ends),
     }
 }
 

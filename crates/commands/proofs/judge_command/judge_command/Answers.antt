@@ -1,6 +1,8 @@
 use Rattle.std.proofs.Common.{ℕ, List, Option, inl, inr, rules}
 use Rattle.std.specs.Prelude.{string_bytes}
 use Rattle.command_line.specs.declared.options.JudgeOptions.{JudgeOptions}
+use Rattle.recording.specs.declared.size.RecordingSize.TheVariants.{Short}
+use Rattle.recording.specs.RecordingLaws.{recording_of_size}
 use Rattle.verdicts.specs.declared.printed.Answer.{Answer}
 use Rattle.report.specs.Answer.{IsAnswerOf}
 use Rattle.verification.specs.Proof.{EveryVerdictHolds}
@@ -16,8 +18,12 @@ answer_holds : EveryVerdictHolds → (inputs : List ℕ → Option (List ℕ)) (
 answer_holds law inputs o bytes answer given is = (bytes, given, (is, go is))
   where
     go : IsAnswerOf bytes answer → AnswerHolds bytes answer
-    go (inl (x, read, verdict, found, outcome, printed)) told =
-        (x, read, law x answer.text.items read.3 (record { verdict = verdict; printed = printed; found = found }))
+    go (inl (x, read, verdict, found, outcome, printed)) told = (
+      x,
+      read,
+      law x answer.text.items (recording_of_size Short x read.3) read.3.within.few_events
+          (record { verdict = verdict; printed = printed; found = found }),
+    )
     go (inr refused) told = absurd (told refused.outcome)
 
 pub returns-in-Ok-clause-written : goal.returns-in-Ok-clause-written
