@@ -40,5 +40,5 @@ returns-in_err-text_check_answer-clause-reads g c = memory_stopped c.from_residu
     (rw c.as_str.ensures.value at c.in_ok-recording.ensures.reads)
     (rw c.as_str-2.ensures.value at c.in_ok-text.ensures.reads)) c.from_residual-in_err-text_check_answer.ensures.1
 
-pub check_text-requires-after_bounds : goal.check_text-requires-after_bounds
-check_text-requires-after_bounds g c κs within = c.in_ok-recording.ensures.ok.read.3.within.few_events
+pub check_text-requires : goal.check_text-requires
+check_text-requires g c = (c.type_bounds.sync-R, c.in_ok-recording.ensures.ok.read.3.within.few_events)
