@@ -3,11 +3,11 @@ use Rattle.std.proofs.Common.{◌≡◌, ◌<◌, ◌≤◌, ◌+◌, ◌-◌, �
 use Rattle.recording.specs.Execution.{Execution}
 use Rattle.relations.specs.Cycle.{IsCycle}
 use Rattle.relations.specs.Forced.{Forced}
-use Rattle.long.specs.Walks.{IsClosing}
+use Rattle.long.specs.Walks.{IsClosedStack}
 use Rattle.long.proofs.Lists.{cycle_of_items}
 
 -- the events of a stack from the last one back to one that is forced before it are a cycle
-pub taken_cycle : (x : Execution) (stack c : List ℕ) (first : ℕ) → IsClosing x stack first → 0 < length c
+pub taken_cycle : (x : Execution) (stack c : List ℕ) (first : ℕ) → IsClosedStack x stack first → 0 < length c
     → length c ≤ length stack → ((k : ℕ) → k < length c → get_or c k 0 ≡ get_or stack (length stack - 1 - k) 0)
     → get_or c (length c - 1) 0 ≡ first → IsCycle (Forced x) c
 taken_cycle x stack c first close some few each last = cycle_of_items (Forced x) c some

@@ -14,7 +14,7 @@ abbrev pub IsBeforeLast : Execution → List ℕ → ℕ → Type 0
 IsBeforeLast x stack d = 0 < length stack → Forced x d (slice_index stack (length stack - 1))
 
 -- d stands on a stack that is a chain, and is forced before the last event of it
-pub record IsClosing (x : Execution) (stack : List ℕ) (d : ℕ) : Type 0 where
+pub record IsClosedStack (x : Execution) (stack : List ℕ) (d : ℕ) : Type 0 where
   pub chain : IsChain x stack
   pub stands : 0 < times stack d
   pub forced : IsBeforeLast x stack d

@@ -6,7 +6,7 @@ ghost use Rattle.recording.specs.Order.{times};
 ghost use Rattle.relations.specs.Cycle.{IsCycle};
 ghost use Rattle.relations.specs.Forced.{Forced};
 ghost use Rattle.long.specs.Chains.{times_kept};
-ghost use Rattle.long.specs.Walks.{IsBlocked, IsClosing, IsOpenEvent, IsWalk};
+ghost use Rattle.long.specs.Walks.{IsBlocked, IsClosedStack, IsOpenEvent, IsWalk};
 
 use crate::open::befores;
 use crate::pairs::Pairs;
@@ -53,7 +53,7 @@ fn walk(
 /// The events of a stack from the last one back to one that stands on it.
 fn cycle_of(alloc: Global, stack: &[EventId], first: EventId) -> Result<Vec<EventId>, OutOfMemory>
     requires { 0 < times stack.now first }
-    ensures { IfOk result (λ cycle. (x : Execution) → IsClosing x stack.now first → IsCycle (Forced x) cycle.items) }
+    ensures { IfOk result (λ cycle. (x : Execution) → IsClosedStack x stack.now first → IsCycle (Forced x) cycle.items) }
 {
     let mut cycle = Vec::new(alloc);
     for i in 0..stack.len() {

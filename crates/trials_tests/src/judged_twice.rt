@@ -71,9 +71,10 @@ fn tried_twice(alloc: Global, plan: &Campaign, k: usize, ends: Ends) -> Result<E
 
 /// The faults under which recordings are judged both ways, and how many trials of each there are.
 const PLANS: &[(Fault, usize)] = &[
-    (Fault::None, 20_000),
-    (Fault::NoBypass, 20_000),
+    (Fault::None, 10_000),
+    (Fault::NoBypass, 10_000),
     (Fault::YoungestFirst, 20_000),
+    (Fault::OpenFence, 20_000),
     (Fault::StaleShare, 20_000),
     (Fault::EarlyRmw, 20_000),
 ];
@@ -92,7 +93,12 @@ fn a_hundred_thousand_recordings_are_judged_both_ways(rt: HostRuntime) -> Result
             ends = tried_twice(rt.alloc(), &plan, k, ends)?;
         }
     }
+    let judged = ends
+        .orders
+        .wrapping_add(ends.overlooks)
+        .wrapping_add(ends.cycles);
     assert!(rt; ends.others == 0);
+    assert!(rt; judged == 100_000);
     assert!(rt; ends.orders > 10_000);
     assert!(rt; ends.overlooks > 1_000);
     assert!(rt; ends.cycles > 1_000);

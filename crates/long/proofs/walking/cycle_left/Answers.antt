@@ -1,5 +1,5 @@
 use Rattle.std.proofs.Common.{ℕ, List, sym, subst}
-use Rattle.long.specs.Walks.{IsClosing, IsWalk}
+use Rattle.long.specs.Walks.{IsClosedStack, IsWalk}
 use Rattle.long.proofs.Back.{walk_closes}
 use Rattle.long.proofs.Lists.{if_ok}
 use Rattle.long.proofs.walking.cycle_left.Goals as goal
@@ -13,6 +13,6 @@ returns c =
     subst (λ (b : List ℕ). IsWalk b stack first) c.deref-2.ensures.value c.in_ok-stack.ensures in
     if_ok c.cycle_of.result
     (λ cycle closes x forced. closes x
-    (subst (λ (s : List ℕ). IsClosing x s first) (sym c.deref-3.ensures.value)
+    (subst (λ (s : List ℕ). IsClosedStack x s first) (sym c.deref-3.ensures.value)
     (walk_closes x c.args.pairs.now c.args.counts.now befores stack first forced c.in_ok-befores.ensures walk)))
     c.cycle_of.ensures
