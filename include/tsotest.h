@@ -19,15 +19,21 @@
 extern "C" {
 #endif
 
-/* What a recording has at most. */
+/* What a recording has at most; of the calls whose names end in _long what a long one has. */
 #define TSOTEST_MAX_CORES 16
 #define TSOTEST_MAX_EVENTS 512
 #define TSOTEST_MAX_ADDRESSES 16
+#define TSOTEST_MAX_LONG_CORES 1024
+#define TSOTEST_MAX_LONG_EVENTS 16777216
+#define TSOTEST_MAX_LONG_ADDRESSES 65536
 
 /* No verdict on a recording of this many events is longer, in bytes. It grows with the square of the events, since a cycle comes
  * with a row of labels for each event: 18 KB for 64 events, 1.06 MB for 512. An order or an overlook takes 4 bytes an event. */
 #define TSOTEST_VERDICT_BYTES(events) ((size_t)13 + (size_t)(events) * (26 + 4 * (size_t)(events)))
 #define TSOTEST_MAX_VERDICT_BYTES TSOTEST_VERDICT_BYTES(TSOTEST_MAX_EVENTS)
+
+/* No answer of tsotest_judge_long to a recording of this many events is longer, in bytes: 9 an event of an order, 24 of a cycle. */
+#define TSOTEST_LONG_VERDICT_BYTES(events) ((size_t)32 + (size_t)(events) * 24)
 
 /* The exit status of a command, which each call answers. */
 enum tsotest_status {
@@ -75,6 +81,12 @@ uint8_t tsotest_draw(const char *recording, size_t recording_len, const char *pr
 /* What `tsotest reduce` prints: the program, the recording and the verdict of the events alone that a violation needs. */
 uint8_t tsotest_reduce(const char *recording, size_t recording_len, const char *program, size_t program_len, char *out,
                        size_t out_len, size_t *len);
+
+/* What `tsotest judge --long`, `explain --long` and `reduce --long` print of a recording of up to TSOTEST_MAX_LONG_EVENTS events of
+ * TSOTEST_MAX_LONG_CORES cores over TSOTEST_MAX_LONG_ADDRESSES addresses. Their time grows little faster than the events. */
+uint8_t tsotest_judge_long(const char *recording, size_t recording_len, char *out, size_t out_len, size_t *len);
+uint8_t tsotest_explain_long(const char *recording, size_t recording_len, char *out, size_t out_len, size_t *len);
+uint8_t tsotest_reduce_long(const char *recording, size_t recording_len, char *out, size_t out_len, size_t *len);
 
 /* What `tsotest verify` prints: whether the text of a verdict, whoever gave it, holds of a recording. */
 uint8_t tsotest_verify(const char *recording, size_t recording_len, const char *verdict, size_t verdict_len, char *out,

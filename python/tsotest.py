@@ -37,7 +37,8 @@ from typing import NamedTuple
 
 __all__ = [
     "Answer", "Counts", "Finding", "Kind", "NoRecording", "Recorder", "Status",
-    "complete", "draw", "explain", "judge", "outcomes", "reduce", "survey", "verify", "version",
+    "complete", "draw", "explain", "explain_long", "judge", "judge_long", "outcomes", "reduce", "reduce_long", "survey", "verify",
+    "version",
 ]
 
 MAX_CORES, MAX_EVENTS, MAX_ADDRESSES, MAX_LABEL_BYTES = 16, 512, 16, 64
@@ -129,7 +130,8 @@ def _library():
     for place in _candidates():
         library = ctypes.CDLL(place)
         text, out, size = [ctypes.c_char_p, ctypes.c_size_t], [ctypes.c_char_p, ctypes.c_size_t], [ctypes.POINTER(ctypes.c_size_t)]
-        library.tsotest_judge.argtypes = [*text, *out, *size]
+        for name in ("tsotest_judge", "tsotest_judge_long", "tsotest_explain_long", "tsotest_reduce_long"):
+            getattr(library, name).argtypes = [*text, *out, *size]
         library.tsotest_draw.argtypes = [*text, *text, ctypes.c_bool, *out, *size]
         for name in ("tsotest_explain", "tsotest_reduce", "tsotest_verify"):
             getattr(library, name).argtypes = [*text, *text, *out, *size]
@@ -137,7 +139,8 @@ def _library():
         for name in ("tsotest_outcomes", "tsotest_complete"):
             getattr(library, name).argtypes = [*text, ctypes.c_size_t, *out, *size]
         library.tsotest_version.argtypes = [*out, *size]
-        for name in ("judge", "explain", "draw", "reduce", "verify", "survey", "outcomes", "complete", "version"):
+        names = "judge explain draw reduce judge_long explain_long reduce_long verify survey outcomes complete version"
+        for name in names.split():
             getattr(library, f"tsotest_{name}").restype = ctypes.c_uint8
         return library
     raise OSError("tsotest: there is no libtsotest.so; TSOTEST_LIBRARY may name it")
@@ -192,6 +195,24 @@ def reduce(recording, program=None):
     """What `tsotest reduce` prints: program, recording and verdict of the events alone that a violation needs."""
     text, own = _bytes(recording), _bytes(program or b"")
     return _answer(_library().tsotest_reduce, text, len(text), own, len(own))
+
+
+def judge_long(recording):
+    """What `tsotest judge --long` prints, of a recording of up to 16,777,216 events."""
+    text = _bytes(recording)
+    return _answer(_library().tsotest_judge_long, text, len(text))
+
+
+def explain_long(recording):
+    """What `tsotest explain --long` prints: the answer in words."""
+    text = _bytes(recording)
+    return _answer(_library().tsotest_explain_long, text, len(text))
+
+
+def reduce_long(recording):
+    """What `tsotest reduce --long` prints: the events alone that a violation needs, with their sources."""
+    text = _bytes(recording)
+    return _answer(_library().tsotest_reduce_long, text, len(text))
 
 
 def verify(recording, verdict):

@@ -43,6 +43,24 @@ static uint8_t reduce(const char *a, const char *b, char *to, size_t room, size_
     return tsotest_reduce(a, strlen(a), b, strlen(b), to, room, size);
 }
 
+static uint8_t judge_long(const char *a, const char *b, char *to, size_t room, size_t *size)
+{
+    (void)b;
+    return tsotest_judge_long(a, strlen(a), to, room, size);
+}
+
+static uint8_t explain_long(const char *a, const char *b, char *to, size_t room, size_t *size)
+{
+    (void)b;
+    return tsotest_explain_long(a, strlen(a), to, room, size);
+}
+
+static uint8_t reduce_long(const char *a, const char *b, char *to, size_t room, size_t *size)
+{
+    (void)b;
+    return tsotest_reduce_long(a, strlen(a), to, room, size);
+}
+
 static uint8_t verify(const char *a, const char *b, char *to, size_t room, size_t *size)
 {
     return tsotest_verify(a, strlen(a), b, strlen(b), to, room, size);
@@ -135,6 +153,26 @@ static void answers(void)
           "events 0 1\n\ncore\nst a0 1\nld a0\n\n"
           "{\"cores\":[[{\"a\":0,\"k\":\"S\",\"w\":1},{\"a\":0,\"k\":\"L\",\"r\":0,\"s\":null}]],\"version\":1,\"writes\":[[0]]}\n"
           "overlook: load 1 store 0\n");
+
+    /* A seventeenth address, of which the other calls say N4. */
+    const char *wide = "{\"version\":1,\"cores\":[[{\"k\":\"S\",\"a\":16,\"w\":1}]],\"writes\":[[],[],[],[],[],[],[],[],[],[],[],[],[],[],[],[],[0]]}";
+    wants(judge, wide, NULL, TSOTEST_REFUSED, "refused: N4\n");
+    wants(judge_long, wide, NULL, TSOTEST_ALLOWED, "ordered: 0\n");
+    wants(judge_long, OVERLOOK, NULL, TSOTEST_VIOLATION, "overlook: load 1 store 0\n");
+    wants(judge_long, CYCLE, NULL, TSOTEST_VIOLATION, "cycle of 1\n0 -> 0 Rf\n");
+    wants(judge_long, "{}", NULL, TSOTEST_REFUSED, "refused: N2\n");
+    wants(explain_long, wide, NULL, TSOTEST_ALLOWED,
+          "TSO allows this recording. Its events in memory order:\n  0  core 0  st a16 1\n     the first write of a16\n");
+    wants(explain_long, CYCLE, NULL, TSOTEST_VIOLATION,
+          "No memory order explains this recording: these 1 events would each come before the next.\n"
+          "  0  core 0  rmw a0 = 1, from 0, wrote 1\n     before 0, which read it\n");
+    wants(explain_long, "", NULL, TSOTEST_REFUSED, "refused: N1\n");
+    wants(reduce_long, wide, NULL, TSOTEST_ALLOWED, "ordered: 0\n");
+    wants(reduce_long, CYCLE, NULL, TSOTEST_VIOLATION,
+          "events 0\n\ncore\nswap a0 1\n\n"
+          "{\"cores\":[[{\"a\":0,\"k\":\"R\",\"r\":1,\"s\":0,\"w\":1}]],\"version\":1,\"writes\":[[0]]}\n"
+          "cycle of 1\n0 -> 0 Rf\nlabels 0: 0\n");
+    wants(reduce_long, "{}", NULL, TSOTEST_REFUSED, "refused: N2\n");
 
     wants(verify, ORDERED, "ordered: 3 1 2 0\n", TSOTEST_ALLOWED, "holds\n");
     wants(verify, ORDERED, "ordered: 0 1 2 3\n", TSOTEST_VIOLATION, "does not hold: line 1\n");

@@ -26,7 +26,7 @@ static inline struct file read_file(const char *path)
     return read;
 }
 
-enum { CALLS = 9 };
+enum { CALLS = 12 };
 
 /* Call number `call` on a recording; a survey's codes are written to out as they stand in memory. */
 static inline uint8_t each_call(int call, struct file it, char *out, size_t room, size_t *len)
@@ -41,6 +41,9 @@ static inline uint8_t each_call(int call, struct file it, char *out, size_t room
     case 5: return tsotest_verify(it.text, it.len, "cycle of 4\n", 11, out, room, len);
     case 6: return tsotest_outcomes(it.text, it.len, 1000, out, room, len);
     case 7: return tsotest_complete(it.text, it.len, 1000, out, room, len);
+    case 8: return tsotest_judge_long(it.text, it.len, out, room, len);
+    case 9: return tsotest_explain_long(it.text, it.len, out, room, len);
+    case 10: return tsotest_reduce_long(it.text, it.len, out, room, len);
     default:
         status = tsotest_survey(it.text, it.len, (uint64_t *)(void *)out, room / 8, len);
         *len *= 8;

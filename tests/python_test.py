@@ -21,6 +21,9 @@ CALLS = {
     "draw": tsotest.draw,
     "draw --all": lambda text, program: tsotest.draw(text, program, all=True),
     "reduce": tsotest.reduce,
+    "judge --long": lambda text, program: tsotest.judge_long(text),
+    "explain --long": lambda text, program: tsotest.explain_long(text),
+    "reduce --long": lambda text, program: tsotest.reduce_long(text),
 }
 
 
@@ -35,7 +38,8 @@ def differs(program, file):
     text = (DATA / file).read_bytes()
     own = file.with_suffix(".litmus")
     for name, call in CALLS.items():
-        for with_program in (False, True) if name != "judge" and (DATA / own).exists() else (False,):
+        takes_program = name != "judge" and "--long" not in name
+        for with_program in (False, True) if takes_program and (DATA / own).exists() else (False,):
             words = [*name.split(), file, *(["--program", own] if with_program else [])]
             answer = call(text, (DATA / own).read_bytes() if with_program else None)
             if (answer.status, answer.text) != commanded(program, words):

@@ -1,10 +1,13 @@
-"""Recordings of any length that a plain machine makes, and a plain check of what `judge --long` answers to them."""
+"""Recordings of any length that a plain machine makes, and a plain check of what commands answer to them with --long."""
 import heapq
 import json
 import random
 import re
 import subprocess
 import sys
+
+from explanations import is_explanation
+from reductions import events_of, is_violation, named_by, program_text, restricted
 
 PAIR = re.compile(r"(\d+) -> (\d+) (Po|Wo|Rf|Fr)")
 
@@ -205,17 +208,57 @@ def is_right(recording, status, text):
     return status == 0 and order is not None and text == "".join(["ordered:", *(f" {e}" for e in order), "\n"]) and plain.is_order(order)
 
 
-def judged(program, recording, *words):
-    """The status and the text that the program answers to a recording."""
-    ran = subprocess.run([program, "judge", "-", *words], input=json.dumps(recording).encode(), capture_output=True, check=False)
+def answer(program, recording, command, *words):
+    """The status and the text that a command of the program answers to a recording."""
+    ran = subprocess.run([program, command, "-", *words], input=json.dumps(recording).encode(), capture_output=True, check=False)
     return ran.returncode, ran.stdout.decode()
+
+
+def judged(program, recording, *words):
+    """The status and the text that the program judges a recording with."""
+    return answer(program, recording, "judge", *words)
+
+
+def part_of(recording, named):
+    """The events of an answer with the source of each, and the recording of these alone, each of which that is none of the answer writes alone."""
+    events = events_of(recording)
+    kept = sorted({*named, *(events[it]["s"] for it in named if events[it].get("s") is not None)})
+    number, cores = 0, []
+    for core in recording["cores"]:
+        cores.append([])
+        for event in core:
+            is_store = event["k"] == "R" and number not in named
+            cores[-1].append({"a": event["a"], "k": "S", "w": event["w"]} if is_store else event)
+            number += 1
+    return kept, {**recording, "cores": cores}
+
+
+def cut(program, recording, verdict):
+    """What `reduce --long` prints of a recording to which this was answered."""
+    if not is_violation(verdict):
+        return verdict
+    kept, whole = part_of(recording, named_by(verdict))
+    part = restricted(whole, kept)
+    line = json.dumps(part, sort_keys=True, separators=(",", ":"))
+    is_short = len(part["cores"]) <= 16 and len(kept) <= 512 and len(part["writes"]) <= 16
+    text = "events " + " ".join(map(str, kept)) + "\n\n" + (program_text(whole, kept, None) + "\n" if is_short else "") + line + "\n"
+    return text + judged(program, part, *([] if is_short else ["--long"]))[1]
+
+
+def is_told(program, recording, status, verdict):
+    """Whether explain and reduce tell what was answered with --long; an explanation of many events in order is not read."""
+    if answer(program, recording, "reduce", "--long") != (status, cut(program, recording, verdict)):
+        return False
+    told, text = answer(program, recording, "explain", "--long")
+    is_read = is_violation(verdict) or len(verdict) < 10_000
+    return told == status and (not is_read or is_explanation(text, recording, verdict))
 
 
 def is_judged_twice(program, recording):
     """Whether --long answers right, and says the same as without it, but of a cycle that it is no shorter and has no labels."""
     status, text = judged(program, recording, "--long")
     again, other = judged(program, recording)
-    if not is_right(recording, status, text) or status != again:
+    if not is_right(recording, status, text) or status != again or not is_told(program, recording, status, text):
         return False
     if text.startswith("cycle of "):
         return other.startswith("cycle of ") and int(text.split()[2]) >= int(other.split()[2])
@@ -230,21 +273,41 @@ def of_small(program, seed, count):
         yield f"small recording {i}", is_judged_twice(program, changed(dice, recording) if dice.random() < 0.7 else recording)
 
 
+def is_large_right(program, recording):
+    """Whether a large recording is judged right with --long, and is told."""
+    status, text = judged(program, recording, "--long")
+    return is_right(recording, status, text) and is_told(program, recording, status, text)
+
+
 def of_large(program, seed, events):
     """Large recordings, each with whether it is judged right: of few cores and many, as the machine made them and changed."""
     dice = random.Random(seed)
     for cores, addresses in ((16, 64), (1024, 4096)):
         recording = made(dice, cores, events, addresses)
-        yield f"{events} events of {cores} cores", is_right(recording, *judged(program, recording, "--long"))
+        yield f"{events} events of {cores} cores", is_large_right(program, recording)
         for i in range(3):
             recording = changed(dice, recording)
-            yield f"{events} events of {cores} cores, changed {i + 1} times", is_right(recording, *judged(program, recording, "--long"))
+            yield f"{events} events of {cores} cores, changed {i + 1} times", is_large_right(program, recording)
+
+
+def ring(cores):
+    """A recording of as many cores as addresses, in which each core reads what the one before it writes later: its only cycle goes through all events."""
+    load = lambda core: {"a": core, "k": "L", "r": 1, "s": (2 * core - 1) % (2 * cores)}
+    store = lambda core: {"a": (core + 1) % cores, "k": "S", "w": 1}
+    writes = [[(2 * address - 1) % (2 * cores)] for address in range(cores)]
+    return {"cores": [[load(core), store(core)] for core in range(cores)], "version": 1, "writes": writes}
+
+
+def of_rings(program):
+    """Rings that are as large as a program, and larger ones, each with whether it is judged right, and told."""
+    for cores in (2, 16, 17, 300):
+        yield f"a ring of {cores} cores", is_large_right(program, ring(cores))
 
 
 def main():
     """Judges recordings of a size by a program, and says what differs."""
     program, seed, events = sys.argv[1], int(sys.argv[2]), int(sys.argv[3])
-    differ = [name for name, holds in (*of_small(program, seed, 1000), *of_large(program, seed, events)) if not holds]
+    differ = [name for name, holds in (*of_small(program, seed, 1000), *of_large(program, seed, events), *of_rings(program)) if not holds]
     for name in differ:
         print(f"long: differs: {name}")
     return len(differ) > 0

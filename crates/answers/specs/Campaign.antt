@@ -1,5 +1,5 @@
 -- What is answered of campaigns.
-use Rattle.std.specs.Prelude.{◌≡◌, ◌++◌, ◌∷◌, ℕ, Bool, true, false, None, Some, List, if◌then◌else◌, is_some, nat_lt}
+use Rattle.std.specs.Prelude.{◌≡◌, ◌++◌, ◌∷◌, ℕ, Bool, true, None, Some, List, if◌then◌else◌, is_some, nat_lt}
 use Rattle.program.specs.Parts.{Parts}
 use Rattle.program.specs.Spelling.{spelling}
 use Rattle.relations.specs.Consistency.{HasNoOrder}

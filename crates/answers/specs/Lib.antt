@@ -1,6 +1,7 @@
 pub mod Rendered
 pub mod Run
 pub mod Reduced
+pub mod LongReduced
 pub mod Campaign
 pub mod Survey
 pub mod Outcomes

@@ -5,6 +5,7 @@ mod campaigns;
 mod circles;
 mod completion_answers;
 mod histogram_answers;
+mod long_answers;
 mod outcome_answers;
 mod parts;
 mod reduced;
@@ -19,6 +20,6 @@ pub use outcome_answers::{
     Condition, condition_answer, log_answer, met_answer, outcomes_answer, unfinished_answer,
 };
 pub use reduced::{line_answer, reduced_answer};
-pub use rendering::{Rendering, rendered_answer};
+pub use rendering::{Rendering, long_rendered_answer, rendered_answer};
 pub use runs::{finished, script_answer, seeded_answer};
 pub use shown::shown_answer;

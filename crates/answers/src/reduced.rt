@@ -65,7 +65,7 @@ fn put_labels_left(
 }
 
 /// The line of the numbers that the kept events had, their labels, and an empty line, where they are asked for.
-fn heading_of(
+pub(crate) fn heading_of(
     alloc: Global,
     events: &[EventId],
     headed: Option<&Labels>,
@@ -84,7 +84,7 @@ fn heading_of(
 }
 
 /// A program, an empty line, and the line of its recording with the verdict on it, after a text.
-fn append_verdict(
+pub(crate) fn append_verdict(
     alloc: Global,
     mut text: Vec<u8>,
     program: &Program,

@@ -4,9 +4,12 @@ ghost use Rattle.std.specs.Prelude.{◌≡◌, IfOk, IfSome, option_map};
 ghost use Rattle.recording.specs.Recording.{IsShortRecording};
 ghost use Rattle.verdicts.specs.Judgement.{IsVerdict};
 ghost use Rattle.verdicts.specs.Verified.{Verifies};
-ghost use Rattle.answers.specs.Rendered.{IsPicture, IsRenderedAnswer, IsWholeDrawing, addresses_of, names_of};
+ghost use Rattle.long.specs.Answer.{IsLongAnswer, IsWitness};
+ghost use Rattle.answers.specs.Rendered.{IsLongPicture, IsLongRenderedAnswer, IsPicture, IsRenderedAnswer};
+ghost use Rattle.answers.specs.Rendered.{IsWholeDrawing, addresses_of, names_of};
 ghost use Rattle.machine.specs.ProgramOf.{IsProgramOf};
 
+use crate::long_answers::{answered, long_reduced_answer};
 use crate::reduced::reduced_answer;
 use common::{EventId, OutOfMemory};
 use drawing::drawing_text;
@@ -14,9 +17,10 @@ use event_texts::{Labels, Names};
 use explanation::explanation_text;
 use indexmap::IndexSet;
 use judge::{Verdict, judge_alone};
-use program::{Name, Program, address_names};
+use long::{LongAnswer, long_outcome, without_labels};
+use program::{Name, Program};
 use recording::Recording;
-use reduction::{Reduced, reduce};
+use reduction::{Reduced, reduce, reduce_long};
 use report::{Answer, outcome_of};
 use std::alloc::Global;
 
@@ -40,17 +44,17 @@ fn whole_drawing(
     alloc: Global,
     recording: &Recording,
     names: &Names,
-    verdict: &Verdict,
+    answer: &LongAnswer,
 ) -> Result<Vec<u8>, OutOfMemory>
-    requires { Verifies recording.now verdict.now }
-    ensures { IfOk result (λ text. IsWholeDrawing recording.now names.now verdict.now text.items) }
+    requires { IsWitness recording.now answer.now }
+    ensures { IfOk result (λ text. IsWholeDrawing recording.now names.now answer.now text.items) }
 {
     recording.sound();
     let mut numbers = Vec::new(alloc);
     for number in 0..recording.len() as EventId {
         numbers.push(number)?;
     }
-    drawing_text(alloc, recording, names, &numbers, recording, verdict)
+    drawing_text(alloc, recording, names, &numbers, recording, answer)
 }
 
 /// A picture of all events, or of those alone that a violation needs.
@@ -59,58 +63,76 @@ fn picture_text(
     all: bool,
     recording: &Recording,
     names: &Names,
-    verdict: &Verdict,
+    verdict: Verdict,
 ) -> Result<Vec<u8>, OutOfMemory>
     requires short { IsShortRecording recording.now }
-    requires found { IsVerdict recording.now verdict.now }
-    requires verified { Verifies recording.now verdict.now }
-    ensures { IfOk result (λ text. IsPicture all recording.now names.now verdict.now text.items) }
+    requires found { IsVerdict recording.now verdict }
+    requires verified { Verifies recording.now verdict }
+    ensures { IfOk result (λ text. IsPicture all recording.now names.now verdict text.items) }
 {
     if all {
-        return whole_drawing(alloc, recording, names, verdict);
+        return whole_drawing(alloc, recording, names, &without_labels(verdict));
     }
-    match reduce(alloc, recording, verdict)? {
+    match reduce(alloc, recording, &verdict)? {
         Some(
             Reduced {
                 events,
                 recording: rest,
             },
         ) => {
-            let verdict = judge_alone(alloc, &rest)?;
-            drawing_text(alloc, recording, names, &events, &rest, &verdict)
+            let left = without_labels(judge_alone(alloc, &rest)?);
+            drawing_text(alloc, recording, names, &events, &rest, &left)
         }
-        None => whole_drawing(alloc, recording, names, verdict),
+        None => whole_drawing(alloc, recording, names, &without_labels(verdict)),
     }
 }
 
-/// The names of the addresses of a recording: those of its program, if that is given.
-fn addresses_of(
+/// A picture of all events of a recording of any length, or of those alone that a violation needs.
+fn long_picture_text(
     alloc: Global,
+    all: bool,
     recording: &Recording,
-    program: Option<&Program>,
-) -> Result<IndexSet<Name>, OutOfMemory>
-    requires { IsShortRecording recording.now }
-    ensures { IfOk result (λ names.
-        names.keys ≡ addresses_of (option_map (λ p. p.now) program.entry) recording.now) }
+    names: &Names,
+    answer: &LongAnswer,
+) -> Result<Vec<u8>, OutOfMemory>
+    requires { IsLongAnswer recording.now answer.now }
+    ensures { IfOk result (λ text. IsLongPicture all recording.now names.now answer.now text.items) }
 {
-    recording.sound();
+    if all {
+        return whole_drawing(alloc, recording, names, answer);
+    }
+    match reduce_long(alloc, recording, answer)? {
+        Some(reduced) => {
+            let left = answered(alloc, &reduced.recording)?;
+            let text = drawing_text(
+                alloc,
+                recording,
+                names,
+                &reduced.events,
+                &reduced.recording,
+                &left,
+            )?;
+            Ok(text)
+        }
+        None => whole_drawing(alloc, recording, names, answer),
+    }
+}
+
+/// The names that the program of a recording gives its addresses; none without a program.
+fn addresses_of(alloc: Global, program: Option<&Program>) -> Result<IndexSet<Name>, OutOfMemory>
+    ensures { IfOk result (λ names. names.keys ≡ addresses_of (option_map (λ p. p.now) program.entry)) }
+{
     match program {
         Some(program) => Ok(program.names().clone()?),
-        None => address_names(alloc, recording.addresses()),
+        None => Ok(IndexSet::new(alloc)),
     }
 }
 
 /// These names, and the labels of the events.
-fn names_of(
-    alloc: Global,
-    recording: &Recording,
-    program: Option<&Program>,
-    labels: Labels,
-) -> Result<Names, OutOfMemory>
-    requires { IsShortRecording recording.now }
-    ensures { IfOk result (λ names. names ≡ names_of (option_map (λ p. p.now) program.entry) recording.now labels) }
+fn names_of(alloc: Global, program: Option<&Program>, labels: Labels) -> Result<Names, OutOfMemory>
+    ensures { IfOk result (λ names. names ≡ names_of (option_map (λ p. p.now) program.entry) labels) }
 {
-    let addresses = addresses_of(alloc, recording, program)?;
+    let addresses = addresses_of(alloc, program)?;
     Ok(Names::new(addresses, labels))
 }
 
@@ -130,19 +152,49 @@ pub fn rendered_answer(
 {
     match rendering {
         Rendering::Words => {
-            let names = names_of(alloc, recording, program, labels)?;
+            let names = names_of(alloc, program, labels)?;
             let verdict = judge_alone(alloc, recording)?;
-            let text = explanation_text(alloc, recording, &names, &verdict)?;
             let outcome = outcome_of(&verdict);
+            let text = explanation_text(alloc, recording, &names, &without_labels(verdict))?;
             Ok(Answer { outcome, text })
         }
         Rendering::Picture { all } => {
-            let names = names_of(alloc, recording, program, labels)?;
+            let names = names_of(alloc, program, labels)?;
             let verdict = judge_alone(alloc, recording)?;
-            let text = picture_text(alloc, all, recording, &names, &verdict)?;
             let outcome = outcome_of(&verdict);
+            let text = picture_text(alloc, all, recording, &names, verdict)?;
             Ok(Answer { outcome, text })
         }
         Rendering::Reduction => reduced_answer(alloc, recording, program, &labels),
+    }
+}
+
+/// The rendering of a recording of any length, with the usual names of its addresses and these labels of its events: of
+/// its first memory order, of its least overlook, or of a cycle of which no event is forced before another than its next.
+/// Fails only if out of memory.
+pub fn long_rendered_answer(
+    alloc: Global,
+    rendering: Rendering,
+    recording: &Recording,
+    labels: Labels,
+) -> Result<Answer, OutOfMemory>
+    ensures { IfOk result (IsLongRenderedAnswer rendering recording.now labels) }
+{
+    match rendering {
+        Rendering::Words => {
+            let names = names_of(alloc, None, labels)?;
+            let answer = answered(alloc, recording)?;
+            let text = explanation_text(alloc, recording, &names, &answer)?;
+            let outcome = long_outcome(&answer);
+            Ok(Answer { outcome, text })
+        }
+        Rendering::Picture { all } => {
+            let names = names_of(alloc, None, labels)?;
+            let answer = answered(alloc, recording)?;
+            let text = long_picture_text(alloc, all, recording, &names, &answer)?;
+            let outcome = long_outcome(&answer);
+            Ok(Answer { outcome, text })
+        }
+        Rendering::Reduction => long_reduced_answer(alloc, recording, &labels),
     }
 }

@@ -29,9 +29,21 @@ commands = (
     )
     ∷ (codes "live", (codes "PROGRAM", Place) ∷ (codes "buffer", Number) ∷ (codes "limit", Number) ∷ (codes "runs", Number) ∷ (codes "words", Nothing) ∷ [])
     ∷ (codes "replay", (codes "FILE", Place) ∷ (codes "words", Nothing) ∷ [])
-    ∷ (codes "explain", (codes "FILE", Place) ∷ (codes "program", Word) ∷ (codes "labels", Word) ∷ (codes "words", Nothing) ∷ [])
-    ∷ (codes "draw", (codes "FILE", Place) ∷ (codes "program", Word) ∷ (codes "labels", Word) ∷ (codes "all", Nothing) ∷ (codes "words", Nothing) ∷ [])
-    ∷ (codes "reduce", (codes "FILE", Place) ∷ (codes "program", Word) ∷ (codes "labels", Word) ∷ (codes "words", Nothing) ∷ [])
+    ∷ (
+      codes "explain",
+      (codes "FILE", Place) ∷ (codes "program", Word) ∷ (codes "labels", Word) ∷ (codes "long", Nothing)
+          ∷ (codes "words", Nothing) ∷ [],
+    )
+    ∷ (
+      codes "draw",
+      (codes "FILE", Place) ∷ (codes "program", Word) ∷ (codes "labels", Word) ∷ (codes "all", Nothing)
+          ∷ (codes "long", Nothing) ∷ (codes "words", Nothing) ∷ [],
+    )
+    ∷ (
+      codes "reduce",
+      (codes "FILE", Place) ∷ (codes "program", Word) ∷ (codes "labels", Word) ∷ (codes "long", Nothing)
+          ∷ (codes "words", Nothing) ∷ [],
+    )
     ∷ (codes "verify", (codes "RECORDING", Place) ∷ (codes "VERDICT", Place) ∷ (codes "workers", Number) ∷ (codes "words", Nothing) ∷ [])
     ∷ (
       codes "survey",

@@ -16,7 +16,7 @@ use Rattle.command_line.specs.declared.options.Misfit.{Misfit}
 use Rattle.command_line.specs.declared.options.Misfit.TheVariants.{EachWithShow, CompleteWithShow, ReduceWithoutShow}
 use Rattle.command_line.specs.declared.options.Misfit.TheVariants.{StatesWithoutComplete}
 use Rattle.command_line.specs.declared.options.Misfit.TheVariants.{RunsWithSteps, TwoQuestions, UnseenWithoutObserved}
-use Rattle.command_line.specs.declared.options.Misfit.TheVariants.{WorkersWithLong}
+use Rattle.command_line.specs.declared.options.Misfit.TheVariants.{ProgramWithLong, WorkersWithLong}
 use Rattle.command_line.specs.declared.options.TheConstants.{DEFAULT_FAULT}
 use Rattle.command_line.specs.declared.table.Takes.{Takes}
 use Rattle.command_line.specs.declared.table.Takes.TheVariants as takes
@@ -126,13 +126,14 @@ survey_misfit rows =
 abbrev pub runs_misfit : List Row → Option Misfit
 runs_misfit rows = if is_some (runs_of rows) && not (given (codes "steps") rows == 0) then Some RunsWithSteps else None
 
--- the options of judge that don't go together: --workers with --long, for which no other command has an entry
+-- what doesn't go together with --long: --workers, or --program
 abbrev pub long_misfit : List Row → Option Misfit
 long_misfit rows =
-    if is_some (one_of (codes "workers") rows) && is_given (codes "long") rows then Some WorkersWithLong else None
+    if is_some (one_of (codes "workers") rows) && is_given (codes "long") rows then Some WorkersWithLong
+    else (if is_given (codes "long") rows && not (given (codes "program") rows == 0) then Some ProgramWithLong else None)
 
 -- the options that don't go together: --each with --show, or --reduce without it, or those of survey, of outcomes, of runs
--- or of judge
+-- or with --long
 abbrev pub misfit_of : List Row → Option Misfit
 misfit_of rows = if is_some (show_of rows) && is_given (codes "each") rows then Some EachWithShow
     else (if not (is_some (show_of rows)) && is_given (codes "reduce") rows then Some ReduceWithoutShow

@@ -1,6 +1,8 @@
 -- The options that the words ask for.
 use Rattle.std.specs.Prelude.{◌≡◌, ◌≢◌, ◌≤◌, ◌<◌, ℕ, Bool, List, Option, Some, None, IfSome, Ok, false, ⊤, codes, true}
-use Rattle.std.specs.Prelude.{IsSomeAnd, is_some, length, map, option_map, string_bytes}
+use Rattle.std.specs.Prelude.{IsSomeAnd, if◌then◌else◌, is_some, length, map, option_map, string_bytes}
+use Rattle.recording.specs.declared.size.RecordingSize.{RecordingSize}
+use Rattle.recording.specs.declared.size.RecordingSize.TheVariants.{Long, Short}
 use Rattle.clap.specs.Takes.{is_given}
 use Rattle.clap.specs.Words.{IsAmong, Row, Text, fault_of, first_of, kind_of, takes}
 use Rattle.clap.specs.declared.error.Error.{Error}
@@ -119,9 +121,14 @@ pub record AreLiveOptions (o : LiveOptions) (rows : List Row) : Type 0 where
 abbrev pub AreFileOptions : FileOptions → List Row → Type 0
 AreFileOptions o rows = first_of (codes "FILE") rows ≡ Some (string_bytes o.file)
 
+-- the size of the recordings that are taken
+abbrev pub size_asked : List Row → RecordingSize
+size_asked rows = if is_given (codes "long") rows then Long else Short
+
 -- the file is its entry, and so are the program and the labels, where there are any
 pub record AreExplainOptions (o : ExplainOptions) (rows : List Row) : Type 0 where
   pub file : first_of (codes "FILE") rows ≡ Some (string_bytes o.file)
+  pub size : o.size ≡ size_asked rows
   pub program : first_of (codes "program") rows ≡ option_map string_bytes o.program
   pub labels : first_of (codes "labels") rows ≡ option_map string_bytes o.labels
 

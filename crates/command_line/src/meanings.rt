@@ -31,7 +31,7 @@ Of a recording:
 N1   the text is not JSON (a recording is one JSON object)
 N2   the JSON has not the shape of a recording, or a value above 4294967295 (keys are `cores`, `writes`, `version` and perhaps `init`, and of an event those of its kind)
 N3   the version is neither 1 nor 2, or is not the one of what stands beside it (version 2 has `init`, version 1 neither `init` nor an event `C`; `complete` takes version 3, and no other)
-N4   there are more than 16 cores, 512 events or 16 write lists (1024, 16777216 or 65536 with `judge --long`), an address without a write list, or not an initial value for each write list (version 1 has no initial values)
+N4   there are more than 16 cores, 512 events or 16 write lists (1024, 16777216 or 65536 with `--long`), an address without a write list, or not an initial value for each write list (version 1 has no initial values)
 N5   event N has a source that is no write to its address (a source is the number of the event whose value was read, or null for the initial value)
 N6   event N read another value than its source wrote (without a source it is the initial value, which is 0 in version 1)
 N7   address N has a write list that is not that of its writes (each event that writes the address stands there once, and nothing else)

@@ -4,7 +4,7 @@ ghost use Rattle.clap.specs.Words.{Row, first_of, found_of, rows_of};
 ghost use Rattle.command_line.specs.Entries.{HasEntries, HasText};
 ghost use Rattle.command_line.specs.Options.{AreExplainOptions, AreMergeOptions, AreOptionsOf, AreRunOptions};
 ghost use Rattle.command_line.specs.Options.{AreOutcomesOptions, AreSurveyOptions, AreValuesAsked, IsCompletionAsked};
-ghost use Rattle.command_line.specs.Options.{IsQuestion};
+ghost use Rattle.command_line.specs.Options.{IsQuestion, size_asked};
 ghost use Rattle.command_line.specs.Refusals.{refusal_of};
 
 use crate::entries::{maybe_text, maybe_texts};
@@ -16,6 +16,7 @@ use crate::options::{
 use crate::values::Values;
 use campaign::Campaign;
 use clap::ArgMatches;
+use recording::RecordingSize;
 use std::alloc::{AllocError, Global};
 
 /// The name that an argument gives.
@@ -45,13 +46,30 @@ fn maybe_given(
     }
 }
 
+/// The size of the recordings that are taken.
+fn size_asked(values: &Values) -> RecordingSize
+    ensures { (rows : List Row) → AreValuesAsked values.now rows → result ≡ size_asked rows }
+{
+    if values.long {
+        RecordingSize::Long
+    } else {
+        RecordingSize::Short
+    }
+}
+
 /// The recording, the program that may name its addresses, and the labels that its events may have.
-fn recorded(alloc: Global, matches: &ArgMatches<'_>) -> Result<ExplainOptions, AllocError>
-    requires { HasText (codes "FILE") (rows_of (found_of matches.now)) }
+fn recorded(
+    alloc: Global,
+    matches: &ArgMatches<'_>,
+    values: &Values,
+) -> Result<ExplainOptions, AllocError>
+    requires file { HasText (codes "FILE") (rows_of (found_of matches.now)) }
+    requires values { AreValuesAsked values.now (rows_of (found_of matches.now)) }
     ensures { IfOk result (λ o. AreExplainOptions o (rows_of (found_of matches.now))) }
 {
     Ok(ExplainOptions {
         file: given(alloc, matches, "FILE")?,
+        size: size_asked(values),
         program: maybe_given(alloc, matches, "program")?,
         labels: maybe_given(alloc, matches, "labels")?,
     })
@@ -229,12 +247,12 @@ pub fn named_options(
         "replay" => Ok(Options::Replay(FileOptions {
             file: given(alloc, matches, "FILE")?,
         })),
-        "explain" => Ok(Options::Explain(recorded(alloc, matches)?)),
+        "explain" => Ok(Options::Explain(recorded(alloc, matches, values)?)),
         "draw" => Ok(Options::Draw(DrawOptions {
-            recording: recorded(alloc, matches)?,
+            recording: recorded(alloc, matches, values)?,
             all: values.all,
         })),
-        "reduce" => Ok(Options::Reduce(recorded(alloc, matches)?)),
+        "reduce" => Ok(Options::Reduce(recorded(alloc, matches, values)?)),
         "verify" => Ok(Options::Verify(VerifyOptions {
             recording: given(alloc, matches, "RECORDING")?,
             verdict: given(alloc, matches, "VERDICT")?,

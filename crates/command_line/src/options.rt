@@ -5,6 +5,7 @@ use clap::error::ErrorKind;
 use common::{MAX_CAPACITY, MAX_STEPS, MAX_TRIALS, MAX_WORKERS};
 use machine::Fault;
 use program::ShapeError;
+use recording::RecordingSize;
 use std::alloc::AllocError;
 use std::fmt;
 use std::fmt::{Display, Formatter, Write};
@@ -159,11 +160,14 @@ pub struct FileOptions {
     pub file: String,
 }
 
-/// What `explain` and `reduce` are asked: the names of the recording, of the program that names its addresses, and of the labels of its events.
+/// What `explain` and `reduce` are asked: the name of the recording and the most that it may have, and the names of the
+/// program that names its addresses and of the labels of its events.
 #[derive(Debug, Drop)]
 pub struct ExplainOptions {
     /// The name of the recording.
     pub file: String,
+    /// The most that the recording may have.
+    pub size: RecordingSize,
     /// The name of the program; none asks for the usual names.
     pub program: Option<String>,
     /// The name of the labels; none asks for none.
@@ -309,6 +313,8 @@ pub enum Misfit {
     RunsWithSteps,
     /// `--long` needs no thread, and `--workers` shares work among some.
     WorkersWithLong,
+    /// A program names the addresses of a recording that is no larger, and `--long` takes larger ones.
+    ProgramWithLong,
 }
 
 impl Display for Misfit {
@@ -347,6 +353,11 @@ impl Display for Misfit {
             }
             Misfit::WorkersWithLong => {
                 f.write_str("error: the argument '--workers <N>' cannot be used with '--long'")?;
+            }
+            Misfit::ProgramWithLong => {
+                f.write_str(
+                    "error: the argument '--program <PROGRAM>' cannot be used with '--long'",
+                )?;
             }
         }
         f.write_str("\n\nFor more information, try '--help'.")

@@ -94,9 +94,9 @@ shorter. In the last two cases TSO allows no order. The answer does not depend o
 number of workers.
 
 With `--long` a recording may have up to 16777216 events of 1024 cores over 65536 addresses;
-else 512 events of 16 cores over 16. Orders and overlooks are answered as without it. Of a
-cycle of forced pairs no event is forced before another than its next; it may not be the
-shortest, and has no labels.",
+else 512 events of 16 cores over 16. Orders and overlooks are answered as without it. A
+cycle has no shortcut: no event of it is forced before an event of it other than the next.
+It may not be the shortest, and has no labels.",
     statuses: "Exit status:
   0  TSO allows the recording
   1  an error of the command line, a file or memory, as standard error says
@@ -189,7 +189,9 @@ stores and fences is its cycle in the words of the tool diy, with the name of th
 test that has it. The addresses are named a0, a1 and so on, or as in the program of
 --program, whose operations and initial values have to be those of the recording. With
 `--labels` each event has the label that its line of this file is, such as a cycle or a pc,
-of at most 64 bytes; an empty line is none.",
+of at most 64 bytes; an empty line is none.
+
+With `--long` a recording may have as much as with `judge --long`, whose answer is said.",
     statuses: "Exit status:
   0  TSO allows the recording
   1  an error of the command line, a file or memory, as standard error says
@@ -216,7 +218,11 @@ and from-read (fr), orange. The edges of a cycle are bold, and of an overlook th
 the store and the load. The others go to the next event of the core, from the write that was
 read, to the next write of the address, and to the first write that is newer than what was
 read. The events of an order stand in memory order, from top to bottom. The addresses are
-named, and the events labelled, as by `explain`.",
+named, and the events labelled, as by `explain`.
+
+With `--long` a recording may have as much as with `judge --long`. Of a violation the part
+is drawn that `reduce --long` prints. An order has all of its events drawn, so its picture
+takes time and room by their square.",
     statuses: "Exit status:
   0  TSO allows the recording
   1  an error of the command line, a file or memory, as standard error says
@@ -237,7 +243,12 @@ events alone, and after another empty line their recording and its verdict, whic
 same one with the numbers that they have there. The addresses are named a0, a1 and so on, or
 as in the program of --program, whose operations and initial values have to be those of the
 recording. With `--labels` the labels of these events follow the line `events`, a line each.
-A recording that TSO allows is answered as by `judge`.",
+A recording that TSO allows is answered as by `judge`.
+
+With `--long` a recording may have as much as with `judge --long`. The events of its answer
+are kept, and the write that each of them read, which is a store where it is none of them.
+The program and the verdict are printed where these are no more than 512 events of 16 cores
+over 16 addresses; else the recording alone, and the answer of `judge --long` to it.",
     statuses: "Exit status:
   0  TSO allows the recording
   1  an error of the command line, a file or memory, as standard error says

@@ -216,6 +216,13 @@ const LONG: ArgumentRow = ArgumentRow {
     help: "Takes up to 16777216 events of 1024 cores over 65536 addresses; not with --workers",
 };
 
+const LONG_RECORDING: ArgumentRow = ArgumentRow {
+    name: "long",
+    takes: Takes::Nothing,
+    value: "",
+    help: "Takes up to 16777216 events of 1024 cores over 65536 addresses; not with --program",
+};
+
 const QUIET: ArgumentRow = ArgumentRow {
     name: "quiet",
     takes: Takes::Nothing,
@@ -320,15 +327,15 @@ pub const COMMANDS: &[CommandRow] = &[
     },
     CommandRow {
         name: "explain",
-        arguments: &[FILE, NAMES, LABELS, WORDS],
+        arguments: &[FILE, NAMES, LABELS, LONG_RECORDING, WORDS],
     },
     CommandRow {
         name: "draw",
-        arguments: &[FILE, NAMES, LABELS, ALL, WORDS],
+        arguments: &[FILE, NAMES, LABELS, ALL, LONG_RECORDING, WORDS],
     },
     CommandRow {
         name: "reduce",
-        arguments: &[FILE, NAMES, LABELS, WORDS],
+        arguments: &[FILE, NAMES, LABELS, LONG_RECORDING, WORDS],
     },
     CommandRow {
         name: "verify",

@@ -3,6 +3,7 @@ use Rattle.std.specs.Prelude.{◌≢◌, ◌⊎◌, ℕ, List, Option, Ok, strin
 use Rattle.command_line.specs.declared.options.FileOptions.{FileOptions}
 use Rattle.command_line.specs.declared.options.JudgeOptions.{JudgeOptions}
 use Rattle.command_line.specs.declared.options.VerifyOptions.{VerifyOptions}
+use Rattle.recording.specs.declared.size.RecordingSize.TheVariants.{Short}
 use Rattle.recording.specs.Execution.{Execution}
 use Rattle.recorder.specs.Reading.{IsReadingResult}
 use Rattle.verdicts.specs.declared.outcome.Outcome.TheVariants.{Refused}
@@ -38,10 +39,10 @@ IsJudgeError inputs o error = IsInputError inputs (string_bytes o.file) error
 
 -- the answer to the text of the second input, of the recording of the first
 abbrev pub IsVerified : (List ℕ → Option (List ℕ)) → VerifyOptions → Answer → Type 0
-IsVerified inputs o answer = OfRecording inputs (string_bytes o.recording)
+IsVerified inputs o answer = OfRecording inputs (string_bytes o.recording) Short
     (λ x. OfBytes inputs (string_bytes o.verdict) (λ text. IsCheckAnswer x text answer))
 
 -- why a text is not checked: the recording is refused or isn't read, or the text isn't
 abbrev pub IsVerifyStop : (List ℕ → Option (List ℕ)) → VerifyOptions → CommandStop → Type 0
-IsVerifyStop inputs o stop = IsRecordingStop inputs (string_bytes o.recording) stop
+IsVerifyStop inputs o stop = IsRecordingStop inputs (string_bytes o.recording) Short stop
     ⊎ IsFailure (IsInputError inputs (string_bytes o.verdict)) stop

@@ -1,12 +1,14 @@
 -- Renderings of a recording.
 use Rattle.std.specs.Prelude.{◌≡◌, ◌⊎◌, ◌++◌, ◌∷◌, [], ℕ, List, Option, Some, None, codes, option_map, string_bytes}
 use Rattle.program.specs.Parts.{Parts}
+use Rattle.recording.specs.declared.size.RecordingSize.{RecordingSize}
+use Rattle.recording.specs.declared.size.RecordingSize.TheVariants.{Long, Short}
 use Rattle.recording.specs.Execution.{Execution}
 use Rattle.machine.specs.ProgramOf.{IsProgramOf}
 use Rattle.command_line.specs.declared.options.ExplainOptions.{ExplainOptions}
 use Rattle.verdicts.specs.declared.printed.Answer.{Answer}
 use Rattle.answers.specs.declared.rendering.Rendering.{Rendering}
-use Rattle.answers.specs.Rendered.{IsRenderedAnswer}
+use Rattle.answers.specs.Rendered.{IsLongRenderedAnswer, IsRenderedAnswer}
 use Rattle.inputs.specs.declared.command_stop.CommandStop.{CommandStop}
 use Rattle.inputs.specs.declared.command_stop.CommandStop.TheVariants.{Failed}
 use Rattle.inputs.specs.declared.command_error.CommandError.TheVariants.{OutOfMemory}
@@ -25,6 +27,11 @@ abbrev pub AreLabelsGiven : (List ℕ → Option (List ℕ)) → Option (List �
 AreLabelsGiven inputs None x labels = labels ≡ []
 AreLabelsGiven inputs (Some name) x labels = AreLabelsAt inputs name x labels
 
+-- the rendering of a recording of a size, with the names of its program where it is a short one
+abbrev pub IsRenderingOf : RecordingSize → Rendering → Execution → Option Parts → List (List ℕ) → Answer → Type 0
+IsRenderingOf Short rendering x program labels answer = IsRenderedAnswer rendering x program labels answer
+IsRenderingOf Long rendering x program labels answer = IsLongRenderedAnswer rendering x labels answer
+
 -- the rendering of a recording, by the program and the labels that are named
 pub record IsRenderedBy (inputs : List ℕ → Option (List ℕ)) (rendering : Rendering) (o : ExplainOptions)
     (answer : Answer) (x : Execution) : Type 0 where
@@ -32,12 +39,12 @@ pub record IsRenderedBy (inputs : List ℕ → Option (List ℕ)) (rendering : R
   pub is_program : IsProgramGiven inputs (option_map string_bytes o.program) x program
   pub labels : List (List ℕ)
   pub are_labels : AreLabelsGiven inputs (option_map string_bytes o.labels) x labels
-  pub rendered : IsRenderedAnswer rendering x program labels answer
+  pub rendered : IsRenderingOf o.size rendering x program labels answer
 
 -- the rendering of the recording of the named input
 abbrev pub IsRendered : (List ℕ → Option (List ℕ)) → Rendering → ExplainOptions → Answer → Type 0
 IsRendered inputs rendering o answer =
-    OfRecording inputs (string_bytes o.file) (IsRenderedBy inputs rendering o answer)
+    OfRecording inputs (string_bytes o.file) o.size (IsRenderedBy inputs rendering o answer)
 
 -- why a recording has no program of this name: it is refused or isn't read, or is another one
 abbrev pub IsNamesStop : (List ℕ → Option (List ℕ)) → Option (List ℕ) → CommandStop → Execution → Type 0
@@ -58,5 +65,5 @@ IsRecordingUnrendered inputs o stop x = IsNamesStop inputs (option_map string_by
 
 -- why no recording is rendered: the recording is not read, and then nothing else is opened, or why one that is read is not
 abbrev pub IsRenderingStop : (List ℕ → Option (List ℕ)) → ExplainOptions → CommandStop → Type 0
-IsRenderingStop inputs o stop = IsRecordingStop inputs (string_bytes o.file) stop
-    ⊎ OfRecording inputs (string_bytes o.file) (IsRecordingUnrendered inputs o stop)
+IsRenderingStop inputs o stop = IsRecordingStop inputs (string_bytes o.file) o.size stop
+    ⊎ OfRecording inputs (string_bytes o.file) o.size (IsRecordingUnrendered inputs o stop)

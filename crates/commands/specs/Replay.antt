@@ -3,6 +3,7 @@ use Rattle.std.specs.Prelude.{◌≡◌, ◌≤◌, ◌⊎◌, ◌++◌, ◌∷�
 use Rattle.command_line.specs.declared.options.FileOptions.{FileOptions}
 use Rattle.program.specs.Spelling.{spelling}
 use Rattle.program.specs.Text.{reading}
+use Rattle.recording.specs.declared.size.RecordingSize.TheVariants.{Short}
 use Rattle.recording.specs.Execution.{Execution}
 use Rattle.recording.specs.Tso.{IsTsoOrder}
 use Rattle.machine.specs.Script.{steps_of, script_text}
@@ -57,12 +58,12 @@ IsReplayOf x answer = IsReplayAnswer x answer ⊎ IsViolationAnswer x answer
 
 -- the recording of the named input, whose addresses are numbered by first use, is replayed, or is a violation
 abbrev pub IsReplayedInput : (List ℕ → Option (List ℕ)) → FileOptions → Answer → Type 0
-IsReplayedInput inputs o answer = OfRecording inputs (string_bytes o.file)
+IsReplayedInput inputs o answer = OfRecording inputs (string_bytes o.file) Short
     (λ x. IsNumberedByFirstUse x × IsReplayOf x answer)
 
 -- why the recording of the named input is not replayed: it isn't read, or its addresses are not numbered by first use;
 -- memory alone is left open
 abbrev pub IsReplayStop : (List ℕ → Option (List ℕ)) → FileOptions → CommandStop → Type 0
-IsReplayStop inputs o stop = IsRecordingStop inputs (string_bytes o.file) stop
-    ⊎ OfRecording inputs (string_bytes o.file)
+IsReplayStop inputs o stop = IsRecordingStop inputs (string_bytes o.file) Short stop
+    ⊎ OfRecording inputs (string_bytes o.file) Short
     (λ x. ¬ IsNumberedByFirstUse x × IsLineStop (codes "refused: N8" ++ 10 ∷ []) stop)

@@ -1,18 +1,21 @@
 //! The commands `explain`, `draw` and `reduce`.
-ghost use Rattle.std.specs.Prelude.{◌≡◌, IfErr, IfOk, option_map, string_bytes};
+ghost use Rattle.std.specs.Prelude.{◌≡◌, IfErr, IfOk, IfSome, option_map, string_bytes};
+ghost use Rattle.recording.specs.Recording.{IsRecordingWithin};
+ghost use Rattle.machine.specs.ProgramOf.{IsProgramOf};
 ghost use Rattle.inputs.specs.Inputs.{CanRead, ReadsNamed};
 ghost use Rattle.commands.specs.Command.{maybe_name, render_names};
 ghost use Rattle.commands.specs.Render.{AreLabelsGiven, IsLabellingStop, IsNamesStop, IsProgramGiven, IsRendered};
-ghost use Rattle.commands.specs.Render.{IsRenderingStop};
+ghost use Rattle.commands.specs.Render.{IsRenderingOf, IsRenderingStop};
 
-use answers::{Rendering, rendered_answer};
+use answers::{Rendering, long_rendered_answer, rendered_answer};
 use command_line::ExplainOptions;
+use common::OutOfMemory;
 use devices::Host;
 use event_texts::Labels;
 use explanation::is_program_of;
 use inputs::{CommandStop, labels_at, program_at, recording_at};
 use program::Program;
-use recording::Recording;
+use recording::{Recording, RecordingSize};
 use report::Answer;
 use std::alloc::Global;
 
@@ -60,6 +63,26 @@ fn labels_given<H: Host>(
     }
 }
 
+/// The rendering of a recording of a size.
+fn rendered(
+    alloc: Global,
+    rendering: Rendering,
+    size: RecordingSize,
+    recording: &Recording,
+    program: Option<&Program>,
+    labels: Labels,
+) -> Result<Answer, OutOfMemory>
+    requires within { IsRecordingWithin size recording.now }
+    requires program { IfSome program (λ p. IsProgramOf p.now recording.now) }
+    ensures { IfOk result
+        (IsRenderingOf size rendering recording.now (option_map (λ p. p.now) program.entry) labels) }
+{
+    match size {
+        RecordingSize::Short => rendered_answer(alloc, rendering, recording, program, labels),
+        RecordingSize::Long => long_rendered_answer(alloc, rendering, recording, labels),
+    }
+}
+
 /// Renders the recording of a named input; it is read before the program is opened, and this before the labels are.
 pub fn render_command<H: Host>(
     alloc: Global,
@@ -72,8 +95,15 @@ pub fn render_command<H: Host>(
     ensures err { IfErr result (IsRenderingStop (H.bytes host.old) options.now) }
     ensures reads { ReadsNamed (render_names options.now) (H.log host.old) (H.log host.new) result }
 {
-    let recording = recording_at(alloc, host, options.file.as_str())?;
+    let recording = recording_at(alloc, host, options.file.as_str(), options.size)?;
     let program = program_given(alloc, &recording, &options.program, host)?;
     let labels = labels_given(alloc, &recording, &options.labels, host)?;
-    Ok(rendered_answer(alloc, rendering, &recording, program.as_ref(), labels)?)
+    Ok(rendered(
+        alloc,
+        rendering,
+        options.size,
+        &recording,
+        program.as_ref(),
+        labels,
+    )?)
 }

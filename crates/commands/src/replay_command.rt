@@ -16,7 +16,7 @@ use judge::{Verdict, judge_alone};
 use litmus::print;
 use machine::steps_text;
 use program::has_one_text;
-use recording::Recording;
+use recording::{Recording, RecordingSize};
 use replay::{is_numbered, most_stores, replay_steps};
 use report::{Answer, Outcome, verdict_answer};
 use std::alloc::Global;
@@ -95,7 +95,7 @@ pub fn replay_command<H: Host>(
     ensures err { IfErr result (IsReplayStop (H.bytes host.old) options.now) }
     ensures reads { ReadsNamed (string_bytes options.now.file ∷ []) (H.log host.old) (H.log host.new) result }
 {
-    let recording = recording_at(alloc, host, options.file.as_str())?;
+    let recording = recording_at(alloc, host, options.file.as_str(), RecordingSize::Short)?;
     if is_numbered(&recording) {
         let verdict = judge_alone(alloc, &recording)?;
         Ok(replay_of(alloc, &recording, &verdict)?)

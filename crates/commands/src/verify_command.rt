@@ -6,6 +6,7 @@ ghost use Rattle.commands.specs.Judge.{IsVerified, IsVerifyStop};
 use command_line::VerifyOptions;
 use devices::Host;
 use inputs::{CommandStop, recording_at, text_at};
+use recording::RecordingSize;
 use report::Answer;
 use std::alloc::Global;
 use std::sync::Wait;
@@ -25,7 +26,12 @@ pub fn verify_command<R: Threads + Wait + Sync, H: Host>(
     ensures reads { ReadsNamed (string_bytes options.now.recording ∷ string_bytes options.now.verdict ∷ [])
         (H.log host.old) (H.log host.new) result }
 {
-    let recording = recording_at(alloc, host, options.recording.as_str())?;
+    let recording = recording_at(
+        alloc,
+        host,
+        options.recording.as_str(),
+        RecordingSize::Short,
+    )?;
     let text = text_at(alloc, host, options.verdict.as_str())?;
     let check = check_text(rt, alloc, &recording, text.as_slice(), options.workers)?;
     Ok(text_check_answer(alloc, check)?)

@@ -1,12 +1,12 @@
--- The edges that a verdict is about.
+-- The edges that an answer is about.
 use Rattle.std.specs.Prelude.{◌≡◌, ◌++◌, ◌∷◌, [], ℕ, zero, suc, Bool, true, false, List, Some, length}
 use Rattle.std.specs.Prelude.{slice_index}
 use Rattle.recording.specs.Execution.{Execution}
 use Rattle.relations.specs.declared.reason.Reason.TheVariants.{Po, Fr}
 use Rattle.relations.specs.Cycle.{next_in_cycle}
 use Rattle.relations.specs.Forced.{IsReason}
-use Rattle.verdicts.specs.declared.verdict.Verdict.{Verdict}
-use Rattle.verdicts.specs.declared.verdict.Verdict.TheVariants.{Ordered, Overlook, Cycle}
+use Rattle.long.specs.declared.answer.LongAnswer.{LongAnswer}
+use Rattle.long.specs.declared.answer.LongAnswer.TheVariants.{Order, Overlook, Cycle}
 use Rattle.drawing.specs.declared.edges.Edge.{Edge}
 
 -- the edge from place i of a cycle to the event after it, by the first reason that holds
@@ -23,14 +23,14 @@ AreCycleEdges x c (suc i) edges = (before : List Edge) × (edge : Edge) × AreCy
 
 -- the edges of a cycle; the store before the load that overlooks it in program order, and the load before
 -- the store since it read an older value; none of an order
-abbrev pub AreBold : Execution → Verdict → List Edge → Type 0
-AreBold x (Ordered m) edges = edges ≡ []
+abbrev pub AreBold : Execution → LongAnswer → List Edge → Type 0
+AreBold x (Order m) edges = edges ≡ []
 AreBold x (Overlook l s) edges = edges ≡ record { first = s; second = l; reason = Po }
     ∷ record { first = l; second = s; reason = Fr } ∷ []
-AreBold x (Cycle c) edges = AreCycleEdges x c.cycle.items (length c.cycle.items) edges
+AreBold x (Cycle c) edges = AreCycleEdges x c.items (length c.items) edges
 
 -- whether the ranks are those of a memory order
-abbrev pub is_ranked : Verdict → Bool
-is_ranked (Ordered m) = true
+abbrev pub is_ranked : LongAnswer → Bool
+is_ranked (Order m) = true
 is_ranked (Overlook l s) = false
 is_ranked (Cycle c) = false

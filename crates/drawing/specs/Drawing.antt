@@ -1,4 +1,4 @@
--- A verdict as a picture: a directed graph in the DOT language of Graphviz.
+-- An order, an overlook or a cycle as a picture: a directed graph in the DOT language of Graphviz.
 use Rattle.std.specs.Prelude.{◌≡◌, ◌++◌, [], ℕ, Bool, true, false, List, Option, Some, None, codes, decimal, length}
 use Rattle.std.specs.Prelude.{slice_index, if◌then◌else◌}
 use Rattle.std.specs.List.{flat_map}
@@ -6,7 +6,7 @@ use Rattle.event_texts.specs.Names.{Names}
 use Rattle.recording.specs.Execution.{Execution, event_count}
 use Rattle.relations.specs.declared.reason.Reason.{Reason}
 use Rattle.relations.specs.declared.reason.Reason.TheVariants.{Po, Wo, Rf, Fr}
-use Rattle.verdicts.specs.declared.verdict.Verdict.{Verdict}
+use Rattle.long.specs.declared.answer.LongAnswer.{LongAnswer}
 use Rattle.drawing.specs.declared.edges.Edge.{Edge}
 use Rattle.drawing.specs.Bold.{AreBold, is_ranked}
 use Rattle.drawing.specs.Edges.{po_edge, rf_edge, co_edge, fr_edge, is_drawn}
@@ -67,19 +67,19 @@ graph_heading = codes "digraph recording {\n  node [shape=\"plaintext\"];\n  new
     ++ codes "  top [shape=\"point\", style=\"invis\"];\n"
 
 -- the lines of the nodes, and what puts them in their places
-unfoldable pub nodes_text : Execution → Names → List ℕ → Execution → Bool → Verdict → List ℕ
+unfoldable pub nodes_text : Execution → Names → List ℕ → Execution → Bool → LongAnswer → List ℕ
 nodes_text x names ks y ranked v = graph_heading ++ texts_below (cluster_text x names ks y ranked) (length x.cores)
     ++ top_line x ks ranked ++ ranks_text x ks v
 
--- the picture of a verdict on y with these edges bold; event i of y is event `ks i` of x
-abbrev pub drawing_text : Execution → Names → List ℕ → Execution → Verdict → List Edge → List ℕ
+-- the picture of an answer on y with these edges bold; event i of y is event `ks i` of x
+abbrev pub drawing_text : Execution → Names → List ℕ → Execution → LongAnswer → List Edge → List ℕ
 drawing_text x names ks y v bold = nodes_text x names ks y (is_ranked v) v
     ++ texts_below (thin_lines y ks (is_ranked v) bold) (event_count y)
     ++ (flat_map (edge_line ks (is_ranked v) true) bold ++ codes "}\n")
 
--- the text is a picture of the verdict on y, whose events have the numbers ks in x, with these names of the
+-- the text is a picture of the answer on y, whose events have the numbers ks in x, with these names of the
 -- addresses of x
-pub record IsDrawing (x : Execution) (names : Names) (ks : List ℕ) (y : Execution) (v : Verdict)
+pub record IsDrawing (x : Execution) (names : Names) (ks : List ℕ) (y : Execution) (v : LongAnswer)
     (text : List ℕ) : Type 0 where
   pub bold : List Edge
   pub about : AreBold y v bold

@@ -3,8 +3,8 @@
 use Rattle.std.specs.Prelude.{◌++◌, ◌==◌, ◌+◌, ◌-◌, [], ℕ, zero, suc, Bool, true, false, Option, Some, None, List}
 use Rattle.std.specs.Prelude.{codes, decimal, length, slice_index, if◌then◌else◌}
 use Rattle.recording.specs.Execution.{Execution, core_of}
-use Rattle.verdicts.specs.declared.verdict.Verdict.{Verdict}
-use Rattle.verdicts.specs.declared.verdict.Verdict.TheVariants.{Ordered, Overlook, Cycle}
+use Rattle.long.specs.declared.answer.LongAnswer.{LongAnswer}
+use Rattle.long.specs.declared.answer.LongAnswer.TheVariants.{Order, Overlook, Cycle}
 use Rattle.texts.specs.Below.{texts_below}
 use Rattle.drawing.specs.Nodes.{first_on_core}
 
@@ -60,7 +60,7 @@ abbrev pub core_ranks : Execution → List ℕ → List ℕ → ℕ → List ℕ
 core_ranks x ks m c = texts_below (next_rank x ks m c) (length m)
 
 -- the lines that put the events of a memory order one below the other
-unfoldable pub ranks_text : Execution → List ℕ → Verdict → List ℕ
-ranks_text x ks (Ordered m) = texts_below (core_ranks x ks m.items) (length x.cores)
+unfoldable pub ranks_text : Execution → List ℕ → LongAnswer → List ℕ
+ranks_text x ks (Order m) = texts_below (core_ranks x ks m.items) (length x.cores)
 ranks_text x ks (Overlook l s) = []
 ranks_text x ks (Cycle c) = []

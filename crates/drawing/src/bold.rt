@@ -1,18 +1,18 @@
-//! The edges that a verdict is about.
+//! The edges that an answer is about.
 
 ghost use Rattle.std.specs.Prelude.{◌<◌, IfOk, length};
 ghost use Rattle.relations.specs.Cycle.{IsCycle};
 ghost use Rattle.relations.specs.Forced.{Forced};
-ghost use Rattle.verdicts.specs.Verified.{Verifies};
-ghost use Rattle.verdicts.specs.declared.verdict.Verdict.TheVariants.{Overlook};
+ghost use Rattle.long.specs.Answer.{IsWitness};
+ghost use Rattle.long.specs.declared.answer.LongAnswer.TheVariants.{Overlook};
 ghost use Rattle.drawing.specs.Bold.{IsCycleEdge, AreCycleEdges, AreBold};
 
 use crate::edges::Edge;
 use common::{EventId, OutOfMemory};
+use long::LongAnswer;
 use recording::Recording;
 use relations::{Places, Reason, next_in_cycle};
 use std::alloc::Global;
-use verdicts::Verdict;
 
 /// The edge from a place of a cycle to the event after it.
 fn cycle_edge(places: &Places<'_>, cycle: &[EventId], i: usize) -> Edge
@@ -68,22 +68,22 @@ fn overlook_edges(
     Ok(edges)
 }
 
-/// The edges that a verdict is about: those of a cycle, by the first reason of each; of an overlook the
+/// The edges that an answer is about: those of a cycle, by the first reason of each; of an overlook the
 /// store before the load in program order, and the load before the store since it read an older value.
 pub(crate) fn bold_edges(
     alloc: Global,
     recording: &Recording,
-    verdict: &Verdict,
+    answer: &LongAnswer,
 ) -> Result<Vec<Edge>, OutOfMemory>
-    requires { Verifies recording.now verdict.now }
-    ensures { IfOk result (λ edges. AreBold recording.now verdict.now edges.items) }
+    requires { IsWitness recording.now answer.now }
+    ensures { IfOk result (λ edges. AreBold recording.now answer.now edges.items) }
 {
-    match verdict {
-        Verdict::Ordered(_) => Ok(Vec::new(alloc)),
-        Verdict::Overlook { load, store } => overlook_edges(alloc, recording, *load, *store),
-        Verdict::Cycle(certificate) => {
+    match answer {
+        LongAnswer::Order(_) => Ok(Vec::new(alloc)),
+        LongAnswer::Overlook(load, store) => overlook_edges(alloc, recording, *load, *store),
+        LongAnswer::Cycle(cycle) => {
             let places = Places::of(alloc, recording)?;
-            cycle_edges(alloc, &places, &certificate.cycle)
+            cycle_edges(alloc, &places, cycle)
         }
     }
 }

@@ -1,8 +1,8 @@
-//! A verdict as a picture.
+//! An order, an overlook or a cycle as a picture.
 
 ghost use Rattle.std.specs.Prelude.{◌≡◌, ◌++◌, OnOk, IfOk, codes, true};
 ghost use Rattle.std.specs.List.{flat_map};
-ghost use Rattle.verdicts.specs.Verified.{Verifies};
+ghost use Rattle.long.specs.Answer.{IsWitness};
 ghost use Rattle.drawing.specs.Bold.{is_ranked};
 ghost use Rattle.drawing.specs.Drawing.{graph_heading, edge_line, nodes_text, drawing_text, IsDrawing};
 
@@ -13,19 +13,19 @@ use crate::nodes::put_clusters;
 use crate::ranks::{put_ranks, put_top};
 use common::{EventId, OutOfMemory};
 use event_texts::Names;
+use long::LongAnswer;
 use recording::Recording;
 use std::alloc::Global;
 use texts::put_text;
-use verdicts::Verdict;
 
 /// Whether the ranks are those of a memory order.
-fn is_ranked(verdict: &Verdict) -> bool
-    ensures { result ≡ is_ranked verdict.now }
+fn is_ranked(answer: &LongAnswer) -> bool
+    ensures { result ≡ is_ranked answer.now }
 {
-    match verdict {
-        Verdict::Ordered(_) => true,
-        Verdict::Overlook { .. } => false,
-        Verdict::Cycle(_) => false,
+    match answer {
+        LongAnswer::Order(_) => true,
+        LongAnswer::Overlook(_, _) => false,
+        LongAnswer::Cycle(_) => false,
     }
 }
 
@@ -48,15 +48,15 @@ fn put_picture_nodes(
     numbers: &[EventId],
     rest: &Recording,
     ranked: bool,
-    verdict: &Verdict,
+    answer: &LongAnswer,
 ) -> Result<(), OutOfMemory>
     ensures { OnOk result (out.new.items ≡ out.old.items
-        ++ nodes_text recording.now names.now numbers.now rest.now ranked verdict.now) }
+        ++ nodes_text recording.now names.now numbers.now rest.now ranked answer.now) }
 {
     put_heading(out)?;
     put_clusters(out, recording, names, numbers, rest, ranked)?;
     put_top(out, recording, numbers, ranked)?;
-    put_ranks(out, recording, numbers, verdict)
+    put_ranks(out, recording, numbers, answer)
 }
 
 /// Adds the bold edges and the end.
@@ -80,19 +80,19 @@ fn put_drawing(
     names: &Names,
     numbers: &[EventId],
     rest: &Recording,
-    verdict: &Verdict,
+    answer: &LongAnswer,
     bold: &[Edge],
 ) -> Result<(), OutOfMemory>
     ensures { OnOk result (out.new.items ≡ out.old.items
-        ++ drawing_text recording.now names.now numbers.now rest.now verdict.now bold.now) }
+        ++ drawing_text recording.now names.now numbers.now rest.now answer.now bold.now) }
 {
-    let ranked = is_ranked(verdict);
-    put_picture_nodes(out, recording, names, numbers, rest, ranked, verdict)?;
+    let ranked = is_ranked(answer);
+    put_picture_nodes(out, recording, names, numbers, rest, ranked, answer)?;
     put_thin(out, rest, numbers, ranked, bold)?;
     put_end(out, numbers, ranked, bold)
 }
 
-/// A verdict that holds of `rest`, as a directed graph in the DOT language of Graphviz: event i of `rest`
+/// An order, an overlook or a cycle of `rest`, as a directed graph in the DOT language of Graphviz: event i of `rest`
 /// is drawn as event `numbers[i]` of the recording, or event 0 where `numbers` ends before, and has these
 /// names of its addresses. For a picture of the whole recording `rest` is the recording, and each number
 /// stands at its own place.
@@ -103,22 +103,22 @@ fn put_drawing(
 /// and Cache Coherence, second edition, chapters 3 and 4). The edges of a cycle and of an overlook are
 /// bold. An edge that is not bold goes to the next event of the core, from the write that was read, to the
 /// next write of the address, or to the first write that is newer than what was read. The cores stand from
-/// left to right, and the events of an order one below the other. An address past the last name has an
-/// empty one. Fails only if out of memory.
+/// left to right, and the events of an order one below the other. An address past the last name is called by
+/// the letter a and its number. Fails only if out of memory.
 pub fn drawing_text(
     alloc: Global,
     recording: &Recording,
     names: &Names,
     numbers: &[EventId],
     rest: &Recording,
-    verdict: &Verdict,
+    answer: &LongAnswer,
 ) -> Result<Vec<u8>, OutOfMemory>
-    requires { Verifies rest.now verdict.now }
+    requires { IsWitness rest.now answer.now }
     ensures { IfOk result (λ text.
-        IsDrawing recording.now names.now numbers.now rest.now verdict.now text.items) }
+        IsDrawing recording.now names.now numbers.now rest.now answer.now text.items) }
 {
-    let bold = bold_edges(alloc, rest, verdict)?;
+    let bold = bold_edges(alloc, rest, answer)?;
     let mut out = Vec::new(alloc);
-    put_drawing(&mut out, recording, names, numbers, rest, verdict, &bold)?;
+    put_drawing(&mut out, recording, names, numbers, rest, answer, &bold)?;
     Ok(out)
 }

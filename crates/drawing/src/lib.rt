@@ -1,4 +1,4 @@
-//! Recordings and their verdicts as pictures.
+//! Recordings and their orders, overlooks and cycles as pictures.
 #![tactic(auto)]
 
 mod bold;

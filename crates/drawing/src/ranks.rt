@@ -9,9 +9,9 @@ use crate::gaps::number_at;
 use crate::nodes::first_on_core;
 use common::{EventId, OutOfMemory};
 use event_texts::event_of;
+use long::LongAnswer;
 use recording::Recording;
 use texts::{put_text, put_text_and_number};
-use verdicts::Verdict;
 
 /// Adds the topmost node of a core whose first drawn event is this one.
 fn put_top_node(
@@ -186,14 +186,14 @@ pub(crate) fn put_ranks(
     out: &mut Vec<u8>,
     recording: &Recording,
     numbers: &[EventId],
-    verdict: &Verdict,
+    answer: &LongAnswer,
 ) -> Result<(), OutOfMemory>
     ensures { OnOk result (out.new.items ≡ out.old.items
-        ++ ranks_text recording.now numbers.now verdict.now) }
+        ++ ranks_text recording.now numbers.now answer.now) }
 {
-    match verdict {
-        Verdict::Ordered(order) => put_order_ranks(out, recording, numbers, order),
-        Verdict::Overlook { .. } => Ok(()),
-        Verdict::Cycle(_) => Ok(()),
+    match answer {
+        LongAnswer::Order(order) => put_order_ranks(out, recording, numbers, order),
+        LongAnswer::Overlook(_, _) => Ok(()),
+        LongAnswer::Cycle(_) => Ok(()),
     }
 }

@@ -1,8 +1,8 @@
 -- What is said of an event: a line with its number, its core, its operation and its values.
 use Rattle.std.specs.Prelude.{◌++◌, ◌∷◌, ◌-◌, ◌==◌, [], ℕ, Option, Some, None, List, codes, decimal, length}
-use Rattle.std.specs.Prelude.{if◌then◌else◌}
+use Rattle.std.specs.Prelude.{if◌then◌else◌, slice_get}
+use Rattle.program.specs.declared.name.Name.{Name}
 use Rattle.program.specs.Names.{name_text}
-use Rattle.program.specs.Spelling.{name_at}
 use Rattle.recording.specs.declared.event.Event.{Event}
 use Rattle.recording.specs.declared.event.Event.TheVariants.{L, S, R, C, F}
 use Rattle.recording.specs.Execution.{Execution, event_count, event_at, core_of}
@@ -16,9 +16,13 @@ event_width x = digits (event_count x - 1)
 abbrev pub core_width : Execution → ℕ
 core_width x = digits (length x.cores - 1)
 
--- the name of an address
+-- the name of address a; where it has none the letter a, and its number
+abbrev pub name_or_number : Option Name → ℕ → List ℕ
+name_or_number (Some name) a = name_text name
+name_or_number None a = codes "a" ++ decimal a
+
 abbrev pub address_text : Names → ℕ → List ℕ
-address_text names a = name_text (name_at names.addresses a)
+address_text names a = name_or_number (slice_get names.addresses a) a
 
 -- the name of the address that an event writes
 abbrev pub written_text : Names → Option ℕ → List ℕ

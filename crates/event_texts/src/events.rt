@@ -9,11 +9,14 @@ use common::{Addr, EventId, OutOfMemory};
 use recording::Event;
 use texts::{put_text, put_text_and_number};
 
-/// Adds the name of an address.
+/// Adds the name of an address; past the last name the letter a and its number.
 pub fn put_address(out: &mut Vec<u8>, names: &Names, address: Addr) -> Result<(), OutOfMemory>
     ensures { OnOk result (out.new.items ≡ out.old.items ++ address_text names.now address) }
 {
-    put_text(out, names.address(address))
+    match names.name(address) {
+        Some(name) => put_text(out, name.text()),
+        None => put_text_and_number(out, b"a", address as usize),
+    }
 }
 
 /// Adds the name of the address that an event writes.

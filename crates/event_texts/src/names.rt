@@ -6,7 +6,8 @@ use indexmap::IndexSet;
 use program::Name;
 use std::marker::Model;
 
-/// The names of the addresses of a recording, and the labels of its events.
+/// The names of the addresses of a recording, and the labels of its events. An address past the last name is called by the
+/// letter a and its number.
 #[derive(Drop)]
 pub struct Names {
     addresses: IndexSet<Name>,
@@ -22,9 +23,7 @@ impl Model for Names {
 }
 
 impl Names {
-    ghost use Rattle.std.specs.Prelude.{◌≡◌};
-    ghost use Rattle.program.specs.Names.{name_text};
-    ghost use Rattle.program.specs.Spelling.{name_at};
+    ghost use Rattle.std.specs.Prelude.{◌≡◌, option_copied, slice_get};
     ghost use Rattle.event_texts.specs.Names.{label_of};
 
     /// These names of addresses, in their order, and these labels.
@@ -35,14 +34,11 @@ impl Names {
         Names { addresses, labels }
     }
 
-    /// The name of an address; empty past the last.
-    pub(crate) fn address(&self, address: Addr) -> &[u8]
-        ensures { result.now ≡ name_text (name_at self.now.addresses address) }
+    /// The name of an address; none past the last.
+    pub(crate) fn name(&self, address: Addr) -> Option<&Name>
+        ensures { option_copied result ≡ slice_get self.now.addresses address }
     {
-        match self.addresses.get_index(address as usize) {
-            Some(name) => name.text(),
-            None => &[],
-        }
+        self.addresses.get_index(address as usize)
     }
 
     /// The label of an event; empty where it has none.

@@ -1,4 +1,4 @@
-//! Verdicts in words, an event a line, and whether a recording is one of a program.
+//! Orders, overlooks and cycles in words, an event a line, and whether a recording is one of a program.
 #![tactic(auto)]
 
 mod cycle;
@@ -6,6 +6,7 @@ mod diy;
 mod memory_order;
 mod named;
 mod overlook;
+mod placed;
 mod program_of;
 mod words;
 

@@ -1,13 +1,17 @@
 //! A memory order in words.
 
 use crate::named::Named;
+use crate::placed::{PlacedOrder, place_in_list};
 use common::{Addr, EventId, OutOfMemory};
 use event_texts::{event_of, put_address, put_indent, put_line};
-use recording::{Event, place};
+use recording::Event;
+use relations::Places;
+use std::alloc::Global;
 use texts::{put_number, put_text, put_text_and_number};
 
 impl<'a> Named<'a> {
     ghost use Rattle.std.specs.Prelude.{◌≡◌, ◌++◌, OnOk, codes, decimal};
+    ghost use Rattle.recording.specs.Execution.{write_list};
     ghost use Rattle.event_texts.specs.Events.{address_text};
     ghost use Rattle.explanation.specs.Order.{source_words, read_line, write_words, write_line};
     ghost use Rattle.explanation.specs.Order.{lawful_lines, placed_lines, order_text};
@@ -17,7 +21,7 @@ impl<'a> Named<'a> {
     fn put_source(
         &self,
         out: &mut Vec<u8>,
-        order: &[EventId],
+        order: &PlacedOrder<'_>,
         number: EventId,
         address: Addr,
         source: Option<EventId>,
@@ -30,7 +34,7 @@ impl<'a> Named<'a> {
             put_address(out, self.names, address)?;
             return put_text(out, b" is before it");
         };
-        if place(order, source) < place(order, number) {
+        if order.place(source) < order.place(number) {
             put_number(out, source as usize)?;
             put_text(out, b" is the last write of ")?;
             put_address(out, self.names, address)?;
@@ -48,7 +52,7 @@ impl<'a> Named<'a> {
     fn put_read_line(
         &self,
         out: &mut Vec<u8>,
-        order: &[EventId],
+        order: &PlacedOrder<'_>,
         number: EventId,
         address: Addr,
         source: Option<EventId>,
@@ -81,18 +85,19 @@ impl<'a> Named<'a> {
     fn put_write(
         &self,
         out: &mut Vec<u8>,
-        list: &[EventId],
+        places: &Places<'_>,
         number: EventId,
         address: Addr,
     ) -> Result<(), OutOfMemory>
         ensures { OnOk result (out.new.items ≡ out.old.items
-            ++ write_words list.now number (address_text self.now.names.now address)) }
+            ++ write_words (write_list places.now address) number (address_text self.now.names.now address)) }
     {
-        let at = place(list, number);
+        let at = place_in_list(places, address, number);
         if at == 0 {
             put_text(out, b"the first write of ")?;
             return put_address(out, self.names, address);
         }
+        let list = places.write_list(address);
         let earlier = list.get(at - 1).copied().unwrap_or(0);
         self.put_next(out, address, earlier)
     }
@@ -101,14 +106,16 @@ impl<'a> Named<'a> {
     fn put_write_line(
         &self,
         out: &mut Vec<u8>,
+        places: &Places<'_>,
         number: EventId,
         address: Addr,
     ) -> Result<(), OutOfMemory>
+        requires { places.now ≡ self.now.recording.now }
         ensures { OnOk result (out.new.items ≡ out.old.items
             ++ write_line self.now.recording.now self.now.names.now number address) }
     {
         put_indent(out, self.recording)?;
-        self.put_write(out, self.recording.write_list(address), number, address)?;
+        self.put_write(out, places, number, address)?;
         put_text(out, b"\n")
     }
 
@@ -117,19 +124,21 @@ impl<'a> Named<'a> {
     fn put_lawful(
         &self,
         out: &mut Vec<u8>,
-        order: &[EventId],
+        places: &Places<'_>,
+        order: &PlacedOrder<'_>,
         number: EventId,
         event: Event,
     ) -> Result<(), OutOfMemory>
+        requires { places.now ≡ self.now.recording.now }
         ensures { OnOk result (out.new.items ≡ out.old.items
             ++ lawful_lines self.now.recording.now self.now.names.now order.now number event) }
     {
         match event {
             Event::L { a, s, .. } => self.put_read_line(out, order, number, a, s),
-            Event::S { a, .. } => self.put_write_line(out, number, a),
+            Event::S { a, .. } => self.put_write_line(out, places, number, a),
             Event::R { a, s, .. } => {
                 self.put_read_line(out, order, number, a, s)?;
-                self.put_write_line(out, number, a)
+                self.put_write_line(out, places, number, a)
             }
             Event::C { a, s, .. } => self.put_read_line(out, order, number, a, s),
             Event::F => {
@@ -143,19 +152,26 @@ impl<'a> Named<'a> {
     fn put_placed(
         &self,
         out: &mut Vec<u8>,
-        order: &[EventId],
+        places: &Places<'_>,
+        order: &PlacedOrder<'_>,
         number: EventId,
     ) -> Result<(), OutOfMemory>
+        requires { places.now ≡ self.now.recording.now }
         ensures { OnOk result (out.new.items ≡ out.old.items
             ++ placed_lines self.now.recording.now self.now.names.now order.now number) }
     {
         put_line(out, self.recording, self.names, number)?;
         let (_, event) = event_of(self.recording, number);
-        self.put_lawful(out, order, number, event)
+        self.put_lawful(out, places, order, number, event)
     }
 
     /// Adds a memory order in words.
-    pub(crate) fn put_order(&self, out: &mut Vec<u8>, order: &[EventId]) -> Result<(), OutOfMemory>
+    pub(crate) fn put_order(
+        &self,
+        out: &mut Vec<u8>,
+        alloc: Global,
+        order: &[EventId],
+    ) -> Result<(), OutOfMemory>
         ensures { OnOk result (out.new.items ≡ out.old.items
             ++ order_text self.now.recording.now self.now.names.now order.now) }
     {
@@ -163,8 +179,10 @@ impl<'a> Named<'a> {
             out,
             b"TSO allows this recording. Its events in memory order:\n",
         )?;
+        let places = Places::of(alloc, self.recording)?;
+        let placed = PlacedOrder::of(alloc, order, places.len())?;
         for number in order {
-            self.put_placed(out, order, *number)?;
+            self.put_placed(out, &places, &placed, *number)?;
         }
         Ok(())
     }

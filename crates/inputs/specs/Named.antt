@@ -3,8 +3,9 @@ use Rattle.std.specs.Prelude.{◌≡◌, ◌≢◌, ◌⊎◌, ◌++◌, ◌∷�
 use Rattle.program.specs.Parts.{Parts}
 use Rattle.program.specs.Text.{reading}
 use Rattle.recording.specs.declared.fault.RecError.{RecError}
+use Rattle.recording.specs.declared.size.RecordingSize.{RecordingSize}
 use Rattle.recording.specs.Execution.{Execution, event_count}
-use Rattle.recorder.specs.Reading.{IsReadingResult}
+use Rattle.recorder.specs.Reading.{IsReadingOf}
 use Rattle.values.specs.Values.{Values}
 use Rattle.values_text.specs.Reading.{IsValuesReading}
 use Rattle.verdicts.specs.Refusal.{recording_line}
@@ -21,11 +22,12 @@ pub record IsProgramAt (inputs : List ℕ → Option (List ℕ)) (name : List �
   pub given : AreBytesOf inputs name text
   pub read : reading text ≡ Ok program
 
--- the bytes of the input of this name give the recording
-pub record IsRecordingAt (inputs : List ℕ → Option (List ℕ)) (name : List ℕ) (x : Execution) : Type 0 where
+-- the bytes of the input of this name give the recording of a size
+pub record IsRecordingAt (inputs : List ℕ → Option (List ℕ)) (name : List ℕ) (size : RecordingSize) (x : Execution)
+    : Type 0 where
   pub bytes : List ℕ
   pub given : AreBytesOf inputs name bytes
-  pub read : IsReadingResult bytes (Ok x)
+  pub read : IsReadingOf size bytes (Ok x)
 
 -- the bytes of the input of this name give the values
 pub record AreValuesAt (inputs : List ℕ → Option (List ℕ)) (name : List ℕ) (v : Values) : Type 0 where
@@ -39,12 +41,12 @@ IsProgramStop inputs name (Refused refusal) = (text : List ℕ) × AreBytesOf in
     × IsReadingStop line_refusal_name (reading text) (Refused refusal)
 IsProgramStop inputs name (Failed error) = IsInputError inputs name error
 
--- the named input is no recording, or isn't read
-abbrev pub IsRecordingStop : (List ℕ → Option (List ℕ)) → List ℕ → CommandStop → Type 0
-IsRecordingStop inputs name (Refused refusal) = (bytes : List ℕ) × AreBytesOf inputs name bytes
-    × (refused : RecError) × IsReadingResult bytes (Err refused)
+-- the named input is no recording of a size, or isn't read
+abbrev pub IsRecordingStop : (List ℕ → Option (List ℕ)) → List ℕ → RecordingSize → CommandStop → Type 0
+IsRecordingStop inputs name size (Refused refusal) = (bytes : List ℕ) × AreBytesOf inputs name bytes
+    × (refused : RecError) × IsReadingOf size bytes (Err refused)
     × (recording_line refused ≡ Some (string_bytes refusal.line))
-IsRecordingStop inputs name (Failed error) = IsInputError inputs name error
+IsRecordingStop inputs name size (Failed error) = IsInputError inputs name error
 
 -- the input of this name has a label for each event of the recording
 pub record AreLabelsAt (inputs : List ℕ → Option (List ℕ)) (name : List ℕ) (x : Execution) (labels : List (List ℕ))
@@ -79,9 +81,9 @@ IsValuesStop inputs name (Failed error) = IsInputError inputs name error
 abbrev pub OfProgram : (List ℕ → Option (List ℕ)) → List ℕ → (Parts → Type 0) → Type 0
 OfProgram inputs name Holds = (program : Parts) × IsProgramAt inputs name program × Holds program
 
--- the input of this name is a recording, of which this holds
-abbrev pub OfRecording : (List ℕ → Option (List ℕ)) → List ℕ → (Execution → Type 0) → Type 0
-OfRecording inputs name Holds = (x : Execution) × IsRecordingAt inputs name x × Holds x
+-- the input of this name is a recording of a size, of which this holds
+abbrev pub OfRecording : (List ℕ → Option (List ℕ)) → List ℕ → RecordingSize → (Execution → Type 0) → Type 0
+OfRecording inputs name size Holds = (x : Execution) × IsRecordingAt inputs name size x × Holds x
 
 -- the input of this name has values, of which this holds
 abbrev pub OfValues : (List ℕ → Option (List ℕ)) → List ℕ → (Values → Type 0) → Type 0

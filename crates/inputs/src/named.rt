@@ -12,8 +12,8 @@ use devices::Host;
 use event_texts::{LabelError, Labels, labels_in};
 use litmus::{line_refusal_name, parse};
 use program::{LitmusError, Program};
-use recorder::read_recording;
-use recording::Recording;
+use recorder::read_recording_of;
+use recording::{Recording, RecordingSize};
 use std::alloc::Global;
 use values::Values;
 use values_text::read_values;
@@ -40,20 +40,21 @@ pub fn program_at<H: Host>(alloc: Global, host: &mut H, name: &str) -> Result<Pr
     }
 }
 
-/// The recording of a named input, or why it is not read.
+/// The recording of a size that a named input is, or why it is not read.
 pub fn recording_at<H: Host>(
     alloc: Global,
     host: &mut H,
     name: &str,
+    size: RecordingSize,
 ) -> Result<Recording, CommandStop>
     requires { CanRead (H.log host.old).tally }
-    ensures ok { IfOk result (λ recording. IsRecordingAt (H.bytes host.old) name.now recording) }
-    ensures err { IfErr result (IsRecordingStop (H.bytes host.old) name.now) }
+    ensures ok { IfOk result (λ recording. IsRecordingAt (H.bytes host.old) name.now size recording) }
+    ensures err { IfErr result (IsRecordingStop (H.bytes host.old) name.now size) }
     ensures reads { ReadsNamed (name.now ∷ []) (H.log host.old) (H.log host.new) result }
     ensures kept { H.bytes host.new ≡ H.bytes host.old }
 {
     let bytes = text_at(alloc, host, name)?;
-    match read_recording(alloc, bytes.as_slice()) {
+    match read_recording_of(alloc, bytes.as_slice(), size) {
         Ok(recording) => Ok(recording),
         Err(refusal) => match recording_line(alloc, refusal)? {
             Some(line) => Err(CommandStop::Refused(PrintedRefusal { line, quote: None })),

@@ -1,8 +1,12 @@
 -- What is answered to a recording of any length.
 use Rattle.recording.specs.Execution.{Execution}
-use Rattle.relations.specs.Forced.{Forced, IsLeastOverlook}
+use Rattle.recording.specs.Tso.{IsTsoOrder}
+use Rattle.relations.specs.Cycle.{IsCycle}
+use Rattle.relations.specs.Forced.{Forced, IsLeastOverlook, Overlooks}
 use Rattle.relations.specs.Consistency.{HasNoOrder, HasNoOverlook}
 use Rattle.verdicts.specs.Judgement.{IsOrderedVerdict}
+use Rattle.verdicts.specs.declared.verdict.Verdict.{Verdict}
+use Rattle.verdicts.specs.declared.verdict.Verdict.TheVariants as verdict
 use Rattle.long.specs.declared.answer.LongAnswer.{LongAnswer}
 use Rattle.long.specs.declared.answer.LongAnswer.TheVariants.{Order, Overlook, Cycle}
 use Rattle.long.specs.Critical.{IsCritical}
@@ -13,3 +17,15 @@ abbrev pub IsLongAnswer : Execution → LongAnswer → Type 0
 IsLongAnswer x (Order m) = IsOrderedVerdict x m.items
 IsLongAnswer x (Overlook l s) = IsLeastOverlook x l s × HasNoOrder x
 IsLongAnswer x (Cycle c) = IsCritical (Forced x) c.items × HasNoOverlook x × HasNoOrder x
+
+-- the order is a memory order of TSO, the read overlooks the store, the cycle is one of forced pairs
+abbrev pub IsWitness : Execution → LongAnswer → Type 0
+IsWitness x (Order m) = IsTsoOrder x m.items
+IsWitness x (Overlook l s) = Overlooks x l s
+IsWitness x (Cycle c) = IsCycle (Forced x) c.items
+
+-- a verdict without the labels of its cycle
+abbrev pub without_labels : Verdict → LongAnswer
+without_labels (verdict.Ordered m) = Order m
+without_labels (verdict.Overlook l s) = Overlook l s
+without_labels (verdict.Cycle c) = Cycle c.cycle

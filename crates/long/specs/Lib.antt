@@ -8,3 +8,4 @@ pub mod Critical
 pub mod Newest
 pub mod Answer
 pub mod Texts
+pub mod AnswerLaws

@@ -1,14 +1,16 @@
 //! The answer to a recording.
 
-ghost use Rattle.std.specs.Prelude.{IfOk};
-ghost use Rattle.long.specs.Answer.{IsLongAnswer};
+ghost use Rattle.std.specs.Prelude.{◌≡◌, IfOk};
+ghost use Rattle.long.specs.Answer.{IsLongAnswer, without_labels};
 
 use crate::cut::cut;
 use crate::newest::overlook;
 use crate::sorting::{Sorted, sort};
 use common::{EventId, OutOfMemory};
+use labels::Certificate;
 use relations::{Places, forced_is_exact, ordered_is_acyclic};
 use std::alloc::Global;
+use verdicts::Verdict;
 
 /// What is answered to a recording.
 #[derive(Debug, Drop)]
@@ -38,5 +40,16 @@ pub fn judge_long(alloc: Global, places: &Places<'_>) -> Result<LongAnswer, OutO
     match sort(alloc, places)? {
         Sorted::Ordered(order) => Ok(LongAnswer::Order(order)),
         Sorted::Cyclic(cycle) => Ok(LongAnswer::Cycle(cut(alloc, places, &cycle)?)),
+    }
+}
+
+/// What a verdict says of a recording, without the labels of its cycle.
+pub fn without_labels(verdict: Verdict) -> LongAnswer
+    ensures { result ≡ without_labels verdict }
+{
+    match verdict {
+        Verdict::Ordered(order) => LongAnswer::Order(order),
+        Verdict::Overlook { load, store } => LongAnswer::Overlook(load, store),
+        Verdict::Cycle(Certificate { cycle, .. }) => LongAnswer::Cycle(cycle),
     }
 }

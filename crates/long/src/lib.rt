@@ -12,5 +12,5 @@ mod text;
 mod waiting;
 mod walking;
 
-pub use answer::{LongAnswer, judge_long};
-pub use text::long_text;
+pub use answer::{LongAnswer, judge_long, without_labels};
+pub use text::{long_outcome, long_text};

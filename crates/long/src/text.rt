@@ -12,7 +12,7 @@ use texts::put_number;
 use verdicts::{Answer, Outcome, put_order, put_overlook, put_pairs};
 
 /// The outcome of an answer: only an order is no violation.
-fn long_outcome(answer: &LongAnswer) -> Outcome
+pub fn long_outcome(answer: &LongAnswer) -> Outcome
     ensures { result ≡ long_outcome answer.now }
 {
     match answer {

@@ -23,7 +23,7 @@ use verdicts::{Answer, Outcome, recording_line, verdict_answer};
 
 /// The recording of a size that the bytes are, or what is answered to them, since they are refused. Fails only if out of
 /// memory.
-fn read_or_refuse_of(
+pub fn read_or_refuse_of(
     alloc: Global,
     bytes: &[u8],
     size: RecordingSize,

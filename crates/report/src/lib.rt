@@ -4,7 +4,7 @@
 mod answering;
 mod error;
 
-pub use answering::{answer, answer_alone, long_answer, read_or_refuse};
+pub use answering::{answer, answer_alone, long_answer, read_or_refuse, read_or_refuse_of};
 pub use devices::{Device, Failed, MemorySink, MemorySource, Sink, Source};
 pub use error::ReportError;
 pub use ledger::{campaign_text, survey_text};

@@ -10,15 +10,19 @@ use Rattle.verdicts.specs.declared.outcome.Outcome.{Outcome}
 use Rattle.verdicts.specs.declared.outcome.Outcome.TheVariants as outcome
 use Rattle.verdicts.specs.declared.printed.Answer.{Answer}
 use Rattle.verdicts.specs.VerdictAnswer.{outcome_of}
-use Rattle.report.specs.Answer.{IsAnswerOf}
+use Rattle.long.specs.declared.answer.LongAnswer.{LongAnswer}
+use Rattle.long.specs.declared.answer.LongAnswer.TheVariants as long
+use Rattle.long.specs.Texts.{long_outcome}
+use Rattle.report.specs.Answer.{IsAnswerOf, IsLongAnswerOf}
 use Rattle.answers.specs.declared.rendering.Rendering.{Rendering}
 use Rattle.answers.specs.declared.rendering.Rendering.TheVariants.{Words, Picture, Reduction}
+use Rattle.answers.specs.LongReduced.{IsLongReducedAnswer}
 use Rattle.answers.specs.Reduced.{IsReducedAnswer}
-use Rattle.answers.specs.Rendered.{IsRenderedAnswer}
+use Rattle.answers.specs.Rendered.{IsLongRenderedAnswer, IsRenderedAnswer}
 use Rattle.verification.specs.Checked.{IsCheckAnswer}
 use Rattle.tsotest_library.specs.Checked.{IsCheckOf}
 use Rattle.tsotest_library.specs.Given.{IsOutcomeOf}
-use Rattle.tsotest_library.specs.Rendered.{IsRenderedByText, IsRenderedOf}
+use Rattle.tsotest_library.specs.Rendered.{IsLongRenderedOf, IsRenderedByText, IsRenderedOf}
 
 -- well, as a violation or as a refusal
 abbrev pub ComesOut : Outcome → Outcome → Type 0
@@ -55,6 +59,23 @@ pub answer_outcome : (bytes : List ℕ) (a : Answer) → IsAnswerOf bytes a → 
 answer_outcome bytes a (inl (x, read, verdict, found, outcome, printed)) = verdict_outcome verdict a.outcome outcome
 answer_outcome bytes a (inr refused) = inr (inr refused.outcome)
 
+-- as what is answered to a recording of any length does
+long_one : (a : LongAnswer) (o : Outcome) → o ≡ long_outcome a → ComesOut outcome.Ordered o
+long_one (long.Order m) o e = inl e
+long_one (long.Overlook load store) o e = inr (inl e)
+long_one (long.Cycle c) o e = inr (inl e)
+
+-- none of these comes out as neither
+no_long : (a : LongAnswer) (o : Outcome) → o ≡ long_outcome a → o ≢ outcome.Ordered → o ≢ outcome.Violation → ⊥
+no_long (long.Order m) o e order_not violation_not = order_not e
+no_long (long.Overlook load store) o e order_not violation_not = violation_not e
+no_long (long.Cycle c) o e order_not violation_not = violation_not e
+
+-- what is answered to the bytes of one
+pub long_answer_outcome : (bytes : List ℕ) (a : Answer) → IsLongAnswerOf bytes a → ComesOut outcome.Ordered a.outcome
+long_answer_outcome bytes a (inl (x, read, found, is, outcome, printed)) = long_one found a.outcome outcome
+long_answer_outcome bytes a (inr refused) = inr (inr refused.outcome)
+
 -- what is left of a recording
 reduced_outcome : (x : Execution) (p : Option Parts) (labels : List (List ℕ)) (a : Answer) → IsReducedAnswer x p labels a
     → ComesOut outcome.Ordered a.outcome
@@ -70,6 +91,27 @@ rendered_outcome : (rendering : Rendering) (x : Execution) (p : Option Parts) (l
 rendered_outcome Words x p labels a is = verdict_outcome is.verdict a.outcome is.outcome
 rendered_outcome (Picture all) x p labels a is = verdict_outcome is.verdict a.outcome is.outcome
 rendered_outcome Reduction x p labels a is = reduced_outcome x p labels a is
+
+-- what is left of a recording of any length
+long_reduced_outcome : (x : Execution) (labels : List (List ℕ)) (a : Answer) → IsLongReducedAnswer x labels a
+    → ComesOut outcome.Ordered a.outcome
+long_reduced_outcome x labels a is = one_of outcome.Ordered a.outcome (inl refl) (λ order_not violation_not.
+    violation_not ((is.violation (λ m tso.
+    let rendered = is.ordered m tso in no_long rendered.found a.outcome rendered.outcome order_not
+    violation_not)).outcome))
+
+-- what is told of one
+long_rendered_outcome : (rendering : Rendering) (x : Execution) (labels : List (List ℕ)) (a : Answer)
+    → IsLongRenderedAnswer rendering x labels a → ComesOut outcome.Ordered a.outcome
+long_rendered_outcome Words x labels a is = long_one is.found a.outcome is.outcome
+long_rendered_outcome (Picture all) x labels a is = long_one is.found a.outcome is.outcome
+long_rendered_outcome Reduction x labels a is = long_reduced_outcome x labels a is
+
+-- and of the one that the bytes are
+pub long_rendered_of_outcome : (rendering : Rendering) (bytes : List ℕ) (a : Answer) → IsLongRenderedOf rendering bytes a
+    → ComesOut outcome.Ordered a.outcome
+long_rendered_of_outcome rendering bytes a (inl is) = long_rendered_outcome rendering is.recording [] a is.rendered
+long_rendered_of_outcome rendering bytes a (inr refused) = inr (inr refused.outcome)
 
 -- the same by the text of its program
 rendered_by_outcome : (rendering : Rendering) (x : Execution) (text : List ℕ) (a : Answer)

@@ -4,12 +4,13 @@ use Rattle.program.specs.Parts.{Parts}
 use Rattle.program.specs.declared.program.Program.{Program}
 use Rattle.program.specs.Text.{reading}
 use Rattle.recording.specs.Execution.{Execution}
-use Rattle.recorder.specs.Reading.{IsReadingResult}
+use Rattle.recording.specs.declared.size.RecordingSize.TheVariants.{Long}
+use Rattle.recorder.specs.Reading.{IsReadingOf, IsReadingResult}
 use Rattle.machine.specs.ProgramOf.{IsProgramOf}
 use Rattle.verdicts.specs.declared.printed.Answer.{Answer}
-use Rattle.report.specs.Answer.{IsRefusedAnswer}
+use Rattle.report.specs.Answer.{IsRefusedAnswer, IsRefusedOf}
 use Rattle.answers.specs.declared.rendering.Rendering.{Rendering}
-use Rattle.answers.specs.Rendered.{IsRenderedAnswer}
+use Rattle.answers.specs.Rendered.{IsLongRenderedAnswer, IsRenderedAnswer}
 use Rattle.tsotest_library.specs.Refused.{IsTextRefused}
 
 -- the text is that of the program, of which the recording is one
@@ -48,3 +49,13 @@ pub record IsRenderedRecording (rendering : Rendering) (bytes text : List ℕ) (
 abbrev pub IsRenderedOf : Rendering → List ℕ → List ℕ → Answer → Type 0
 IsRenderedOf rendering bytes text answer = IsRenderedRecording rendering bytes text answer
     ⊎ IsRefusedAnswer bytes answer
+
+-- the rendering of the recording of any length that the bytes are, without labels of its events
+pub record IsLongRendered (rendering : Rendering) (bytes : List ℕ) (answer : Answer) : Type 0 where
+  pub recording : Execution
+  pub read : IsReadingOf Long bytes (Ok recording)
+  pub rendered : IsLongRenderedAnswer rendering recording [] answer
+
+-- it, or that the bytes are refused
+abbrev pub IsLongRenderedOf : Rendering → List ℕ → Answer → Type 0
+IsLongRenderedOf rendering bytes answer = IsLongRendered rendering bytes answer ⊎ IsRefusedOf Long bytes answer

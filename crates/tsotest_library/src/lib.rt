@@ -5,8 +5,9 @@ ghost use Rattle.std.specs.Prelude.{◌≡◌, ◌≢◌, ◌≤◌};
 ghost use Rattle.verdicts.specs.declared.outcome.Outcome.TheVariants.{Done, Ordered, Refused, Unfinished, Violation};
 ghost use Rattle.answers.specs.declared.rendering.Rendering.TheVariants.{Words, Picture, Reduction};
 ghost use Rattle.tsotest_library.specs.Given.{AreCodeNumbers, AreCodesAnswered, IsAnswered, IsNothing, IsWrittenWhole};
+ghost use Rattle.report.specs.Answer.{IsLongAnswerOf};
 ghost use Rattle.tsotest_library.specs.Judged.{IsJudgedOf};
-ghost use Rattle.tsotest_library.specs.Rendered.{IsRenderedOf};
+ghost use Rattle.tsotest_library.specs.Rendered.{IsLongRenderedOf, IsRenderedOf};
 ghost use Rattle.tsotest_library.specs.Checked.{IsCheckOf};
 ghost use Rattle.tsotest_library.specs.Listed.{IsListedOf};
 ghost use Rattle.tsotest_library.specs.Completed.{IsCompletedOf};
@@ -24,7 +25,7 @@ mod tests;
 
 use answers::Rendering;
 use common::VERSION_LINE;
-use report::Outcome;
+use report::{Outcome, long_answer};
 use std::alloc::Global;
 use surveys::codes_of_lines;
 
@@ -49,6 +50,24 @@ pub extern "C" fn tsotest_judge(
     ensures refused { result ≡ 3 → IsAnswered (IsJudgedOf recording.now) Refused out.old out.new len.new }
 {
     buffers::put_answer(judging::judged_answer(alloc, recording), out, len)
+}
+
+/// What `tsotest judge --long` prints of the recording that the bytes are, and its status: those of `tsotest_judge`, for
+/// recordings of up to 16,777,216 events of 1,024 cores over 65,536 addresses.
+#[unsafe(no_mangle)]
+pub extern "C" fn tsotest_judge_long(
+    alloc: Global,
+    recording: &[u8],
+    out: &mut [u8],
+    len: &mut usize,
+) -> u8
+    ensures status { result ≤ 3 }
+    ensures allowed { result ≡ 0 → IsAnswered (IsLongAnswerOf recording.now) Ordered out.old out.new len.new }
+    ensures no_memory { result ≡ 1 → IsNothing out.old out.new len.new }
+    ensures violation { result ≡ 2 → IsAnswered (IsLongAnswerOf recording.now) Violation out.old out.new len.new }
+    ensures refused { result ≡ 3 → IsAnswered (IsLongAnswerOf recording.now) Refused out.old out.new len.new }
+{
+    buffers::put_answer(long_answer(alloc, recording), out, len)
 }
 
 /// What `tsotest explain` prints of a recording, and its status: those of `tsotest_judge`, and 3 also where the text
@@ -124,6 +143,48 @@ pub extern "C" fn tsotest_reduce(
 {
     let answer = rendering::rendered_answer_of(alloc, Rendering::Reduction, recording, program);
     buffers::put_answer(answer, out, len)
+}
+
+/// What `tsotest explain --long` prints of a recording, and its status: those of `tsotest_judge_long`.
+#[unsafe(no_mangle)]
+pub extern "C" fn tsotest_explain_long(
+    alloc: Global,
+    recording: &[u8],
+    out: &mut [u8],
+    len: &mut usize,
+) -> u8
+    ensures status { result ≤ 3 }
+    ensures allowed { result ≡ 0 → IsAnswered (IsLongRenderedOf Words recording.now) Ordered out.old out.new len.new }
+    ensures no_memory { result ≡ 1 → IsNothing out.old out.new len.new }
+    ensures violation { result ≡ 2 → IsAnswered (IsLongRenderedOf Words recording.now) Violation out.old out.new len.new }
+    ensures refused { result ≡ 3 → IsAnswered (IsLongRenderedOf Words recording.now) Refused out.old out.new len.new }
+{
+    buffers::put_answer(
+        rendering::long_rendered_answer_of(alloc, Rendering::Words, recording),
+        out,
+        len,
+    )
+}
+
+/// What `tsotest reduce --long` prints of a recording, and its status: those of `tsotest_judge_long`.
+#[unsafe(no_mangle)]
+pub extern "C" fn tsotest_reduce_long(
+    alloc: Global,
+    recording: &[u8],
+    out: &mut [u8],
+    len: &mut usize,
+) -> u8
+    ensures status { result ≤ 3 }
+    ensures allowed { result ≡ 0 → IsAnswered (IsLongRenderedOf Reduction recording.now) Ordered out.old out.new len.new }
+    ensures no_memory { result ≡ 1 → IsNothing out.old out.new len.new }
+    ensures violation { result ≡ 2 → IsAnswered (IsLongRenderedOf Reduction recording.now) Violation out.old out.new len.new }
+    ensures refused { result ≡ 3 → IsAnswered (IsLongRenderedOf Reduction recording.now) Refused out.old out.new len.new }
+{
+    buffers::put_answer(
+        rendering::long_rendered_answer_of(alloc, Rendering::Reduction, recording),
+        out,
+        len,
+    )
 }
 
 /// What `tsotest verify` prints of a recording and the text of a verdict, and its status: 0 where the verdict holds

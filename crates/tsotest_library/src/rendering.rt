@@ -2,16 +2,16 @@
 
 ghost use Rattle.std.specs.Prelude.{IfOk};
 ghost use Rattle.recording.specs.Recording.{IsShortRecording};
-ghost use Rattle.tsotest_library.specs.Rendered.{IsOwnOrRefused, IsRenderedByText, IsRenderedOf};
+ghost use Rattle.tsotest_library.specs.Rendered.{IsLongRenderedOf, IsOwnOrRefused, IsRenderedByText, IsRenderedOf};
 
-use answers::{Rendering, rendered_answer};
+use answers::{Rendering, long_rendered_answer, rendered_answer};
 use common::OutOfMemory;
 use event_texts::Labels;
 use explanation::is_program_of;
 use litmus::{line_refusal_name, parse, refusal_line};
 use program::{LitmusError, Program};
-use recording::Recording;
-use report::{Answer, Outcome, read_or_refuse};
+use recording::{Recording, RecordingSize};
+use report::{Answer, Outcome, read_or_refuse, read_or_refuse_of};
 use std::alloc::Global;
 
 /// The program of a text, of which the recording is one, or what is answered since it is refused. Fails only if out of
@@ -79,6 +79,21 @@ pub(crate) fn rendered_answer_of(
 {
     match read_or_refuse(alloc, bytes)? {
         Ok(recording) => rendered_by(alloc, rendering, &recording, text),
+        Err(refused) => Ok(refused),
+    }
+}
+
+/// The rendering of the recording of any length that the bytes are, or the line that refuses them. Fails only if out of
+/// memory.
+pub(crate) fn long_rendered_answer_of(
+    alloc: Global,
+    rendering: Rendering,
+    bytes: &[u8],
+) -> Result<Answer, OutOfMemory>
+    ensures { IfOk result (IsLongRenderedOf rendering bytes.now) }
+{
+    match read_or_refuse_of(alloc, bytes, RecordingSize::Long)? {
+        Ok(recording) => long_rendered_answer(alloc, rendering, &recording, Labels::none(alloc)),
         Err(refused) => Ok(refused),
     }
 }

@@ -1,4 +1,4 @@
-use Rattle.std.proofs.Common.{◌≡◌, ◌++◌, ℕ, List, subst, take_all}
+use Rattle.std.proofs.Common.{◌≡◌, ◌++◌, ℕ, List, get_or, subst, take_all}
 use Rattle.std.specs.List.{flat_map}
 use Rattle.std.proofs.lemmas.List.{take_more}
 use Rattle.explanation.specs.Order.{placed_lines}
@@ -10,7 +10,9 @@ loop-number-preserved c =
     next_item (placed_lines c.args.self.now.recording.now c.args.self.now.names.now c.args.order.now)
     c.args.order.now c.loop-number.number-index _ _ _ _
     (take_more c.args.order.now c.loop-number.number-index _ c.loop-number-test.true) c.loop-number.invariant
-    c.in_ok-put_placed.ensures
+    (subst (λ (m : List ℕ). c.put_placed.new.out.items ≡ c.loop-number.out.items
+    ++ placed_lines c.args.self.now.recording.now c.args.self.now.names.now m
+    (get_or c.args.order.now c.loop-number.number-index 0)) c.in_ok-placed.ensures c.in_ok-put_placed.ensures)
 
 pub returns : goal.returns
 returns c = two _ _ _ _ _ c.in_ok-put_text.ensures
