@@ -1,89 +1,164 @@
 #!/usr/bin/env python3
-"""Tests examples/herd: programs come back from the tests of herd that are made of them, and published tests are read. Usage: tests/herd_test.py"""
+"""Tests examples/herd: the cases of tests/herd, and that classics and random programs come back from the tests that are made of them.
+
+With a program, also that it takes the logs of such tests, by whose outcomes it tells the classics apart, and that README.md of the example shows what
+is printed. Usage: tests/herd_test.py [PROGRAM]
+"""
+import io
 import json
+import os
 import random
+import subprocess
 import sys
+from contextlib import redirect_stderr, redirect_stdout
 from pathlib import Path
 
-TOP = Path(__file__).resolve().parent.parent
+HERE = Path(__file__).resolve().parent
+TOP = HERE.parent
+EXAMPLE = TOP / "examples/herd"
+CLASSICS = sorted((TOP / "crates/cases/data/classics").glob("*.litmus"))
 sys.dont_write_bytecode = True
-sys.path.insert(0, str(TOP / "examples/herd"))
+sys.path.insert(0, str(EXAMPLE))
 import herd
 
-# Tests as they are published, the program that each is, and what its condition asks.
-PUBLISHED = {
-    "SB": ('X86 SB\n"PodWR Fre PodWR Fre"\n{ x=0; y=0; }\n P0          | P1          ;\n MOV [x],$1  | MOV [y],$1  ;\n'
-           " MOV EAX,[y] | MOV EAX,[x] ;\nexists\n(0:EAX=0 /\\ 1:EAX=0)\n",
-           "core\nst x 1\nld y\ncore\nst y 1\nld x\n", "0:r0=0 1:r0=0\n"),
-    "MP": ("X86_64 MP\n{\n}\n P0          | P1            ;\n movl $1,(x) | movl (y),%eax ;\n movl $1,(y) | movl (x),%ebx ;\n"
-           "exists (1:rax=1 /\\ 1:rbx=0)\n",
-           "core\nst x 1\nst y 1\ncore\nld y\nld x\n", "1:r0=1 1:r1=0\n"),
-    "SB+mfences": ("X86 SB+mfences\n{ }\n P0          | P1          ;\n MOV [x],$1  | MOV [y],$1  ;\n MFENCE      | MFENCE      ;\n"
-                   " MOV EAX,[y] | MOV EAX,[x] ;\nexists (0:EAX=0 /\\ 1:EAX=0)\n",
-                   "core\nst x 1\nfence\nld y\ncore\nst y 1\nfence\nld x\n", "0:r0=0 1:r0=0\n"),
-    "2+2W": ("X86 2+2W\n{}\n P0         | P1         ;\n MOV [x],$2 | MOV [y],$2 ;\n MOV [y],$1 | MOV [x],$1 ;\nexists (x=2 /\\ y=2)\n",
-             "core\nst x 2\nst y 1\ncore\nst y 2\nst x 1\n", "[x]=2 [y]=2\n"),
-    "n6": ("(* one (* remark *)\nX86 n6\n{ 1:EBX=2; }\n P0          | P1          ;\n MOV [x],$1  | MOV [y],EBX ;\n MOV EAX,[x] | MOV [x],EBX ;\n"
-           " MOV EBX,[y] |             ;\nexists (0:EAX=1 /\\ 0:EBX=0 /\\ x=1)\n",
-           "core\nst x 1\nld x\nld y\ncore\nst y 2\nst x 2\n", "0:r0=1 0:r1=0 [x]=1\n"),
-    "atomics": ("X86_64 atomics\n{ x=5; }\n P0 ;\n movl $3,%eax ;\n xchgl %eax,(x) ;\n movl $4,%ecx ;\n lock xaddl %ecx,(x) ;\n movl %eax,%edx ;\n"
-                " movl $7,%eax ;\n movl $9,%ebx ;\n lock cmpxchgl %ebx,(x) ;\nexists (0:rdx=5 /\\ 0:rcx=3 /\\ 0:rax=7 /\\ [x]=9)\n",
-                "core\nswap x 3\nadd x 4\ncas x 7 9\ninit x 5\n", "0:r0=5 0:r1=3 0:r2=7 [x]=9\n"),
-}
-# Tests that are refused, and how the refusal begins.
-REFUSED = {
-    "X86 A\n{ }\n P0 ;\n INC [x] ;\n": "line 4: INC [x]",
-    "X86 A\n{ }\n P0 | P1 ;\n MFENCE ;\n": "line 4: 1 instructions for 2 cores",
-    "X86 A\n{ }\n P0 ;\n MOV EAX,EBX ;\n": "line 4: MOV EAX,EBX",
-    "X86 A\n{ }\n P0 ;\n XADD [x],EAX ;\n": "line 4: XADD [x],EAX",
-    "X86 A\n{ }\n P0 ;\n\n MOV [Long_Name9],$1 ;\n": "line 5: MOV [Long_Name9],$1",
-    "AArch64 A\n{ }\n P0 ;\n": "line 1:",
-    "X86 A\n{ x=y; }\n P0 ;\n": "line 2: the initial value 'x=y'",
-}
+
+def cases_of(text):
+    """The cases of a text, each as its words, standard input, status, and what is printed."""
+    cases = []
+    for line in text.splitlines():
+        if line.startswith("$ herd.py "):
+            cases.append({"words": line.split()[2:], "input": "", "status": 0, "printed": ""})
+        elif line.startswith("< "):
+            cases[-1]["input"] += line[2:] + "\n"
+        elif line.startswith("? "):
+            cases[-1]["status"] = int(line[2:])
+        elif line and not line.startswith("#"):
+            cases[-1]["printed"] += line + "\n"
+    return cases
+
+
+def answer(words, given=""):
+    """The status of a command line, and what it prints on standard output and standard error."""
+    out, err, stdin = io.StringIO(), io.StringIO(), sys.stdin
+    sys.stdin = io.StringIO(given)
+    try:
+        with redirect_stdout(out), redirect_stderr(err):
+            status = herd.main(words)
+    except SystemExit as end:
+        status = end.code
+    finally:
+        sys.stdin = stdin
+    return status, out.getvalue(), err.getvalue()
+
+
+def cases():
+    """Tests each case: where the status is 1, a line on standard error and nothing else."""
+    found = cases_of((HERE / "herd/herd.cases").read_text())
+    os.chdir(HERE / "herd")
+    for case in found:
+        wanted = (1, "", case["printed"]) if case["status"] else (0, case["printed"], "")
+        said = answer(case["words"], case["input"])
+        assert said == wanted and (not case["status"] or said[2].count("\n") == 1), (case, said)
+    os.chdir(TOP)
+    return len(found)
+
+
+def command_lines():
+    """Tests that what is no command line is a line on standard error, with status 1, and that the script starts by itself."""
+    for words in ([], ["to_herd"], ["from_log", "test"], ["from_herd", "a", "b"], ["judge", "a"], ["from_herd", "a", "--recording", "b"]):
+        status, out, err = answer(words)
+        assert (status, out, err.count("\n")) == (1, "", 1) and err.startswith("herd: "), (words, status, out, err)
+    ran = subprocess.run([sys.executable, EXAMPLE / "herd.py", "from_herd", "-"], input=b"X86 A\n", stdout=subprocess.PIPE, stderr=subprocess.PIPE)
+    assert (ran.returncode, ran.stdout, ran.stderr) == (1, b"", b"herd: there are no initial values between braces\n"), ran
+
+
+def items_of(recording, names):
+    """The items of a recording's outcome, as docs/FORMATS.md has them."""
+    items, events = [], [event for core in recording["cores"] for event in core]
+    for core, made in enumerate(recording["cores"]):
+        items += [f"{core}:r{k}={event['r']}" for k, event in enumerate(it for it in made if "r" in it)]
+    first = recording.get("init", [0] * len(names))
+    last = [events[it[-1]]["w"] if it else value for it, value in zip(recording["writes"], first)]
+    return items + [f"[{name}]={value}" for name, value in zip(names, last)]
+
+
+def classics():
+    """Tests that each classic comes back from its test, with or without its recording, and that the condition is the recording's outcome."""
+    for file in CLASSICS:
+        program, recording = file.read_text(), file.with_suffix(".json").read_text()
+        test = herd.to_herd(program, recording, file.stem)
+        names = list(dict.fromkeys(line.split()[1] for line in program.splitlines() if " " in line))
+        assert herd.from_herd(test) == program == herd.from_herd(herd.to_herd(program)), file
+        assert herd.condition(test).split() == items_of(json.loads(recording), names), file
+        assert herd.condition(herd.to_herd(program)) == "\n", file
 
 
 def random_program(dice):
-    """A program of one to four cores with every operation, within what registers hold."""
-    value = lambda: str(dice.choice([0, 1, 2, 7, 2**32 - 1]))
-    name = lambda: dice.choice(["x", "y", "a0", "lock"])
-    make = [lambda: ["st", name(), value()], lambda: ["ld", name()], lambda: ["fence"], lambda: ["swap", name(), value()],
-            lambda: ["add", name(), value()], lambda: ["cas", name(), value(), value()]]
-    cores = [[dice.choice(make)() for _ in range(dice.randrange(9))] for _ in range(dice.randint(1, 4))]
-    return herd.text_of(cores, {it: dice.choice([0, 5]) for it in ("x", "y", "a0", "lock")})
+    """The text of a program of one to four cores with all operations, whose reads fit in registers."""
+    numbers, names = ["0", "1", "7", "2147483648", "4294967295"], ["x", "y", "a15", "lock", "r8", "mov1"]
+    number, name = lambda: dice.choice(numbers), lambda: dice.choice(names)
+    make = {
+        "st": lambda: f"st {name()} {number()}",
+        "ld": lambda: f"ld {name()}",
+        "fence": lambda: "fence",
+        "swap": lambda: f"swap {name()} {number()}",
+        "add": lambda: f"add {name()} {number()}",
+        "cas": lambda: f"cas {name()} {number()} {number()}",
+    }
+    lines = []
+    for _ in range(dice.randint(1, 4)):
+        lines += ["core", *(make[dice.choice(list(make))]() for _ in range(dice.randrange(8)))]
+    used = dict.fromkeys(line.split()[1] for line in lines if " " in line)
+    lines += [f"init {it} {dice.choice(numbers[1:])}" for it in used if dice.random() < 0.3]
+    return "".join(f"{it}\n" for it in lines)
 
 
-def refusal_of(call, *texts):
-    try:
-        return "no refusal: " + call(*texts)
-    except herd.Refused as refusal:
-        return str(refusal)
+def randoms(count):
+    """Tests that random programs come back from their tests."""
+    dice = random.Random(2026)
+    for _ in range(count):
+        program = random_program(dice)
+        assert herd.from_herd(herd.to_herd(program)) == program, program
+
+
+def log_of(test):
+    """A log in which the outcome that a test asks for was seen once."""
+    asked = test.splitlines()[-1]
+    items = "" if asked == "exists (true)" else asked[len("exists (") : -1].replace(" /\\", ";") + ";"
+    return f"{test.splitlines()[0].replace('X86_64', 'Test')} Allowed\nHistogram (1 states)\n1     *>{items}\nOk\n"
+
+
+def observed(program):
+    """Tests that the program takes the log of each classic, and forbids the outcome exactly where the classic's verdict is a violation."""
+    for file in CLASSICS:
+        test = herd.to_herd(file.read_text(), file.with_suffix(".json").read_text(), file.stem)
+        log = herd.from_log(test, log_of(test))
+        ran = subprocess.run([program, "outcomes", file, "--observed", "-"], input=log.encode(), stdout=subprocess.PIPE, stderr=subprocess.PIPE)
+        is_ordered = file.with_suffix(".verdict").read_text().startswith("ordered:")
+        wanted = (0, b"allowed 1 ") if is_ordered else (2, b"forbidden 1 ")
+        assert (ran.returncode, ran.stdout[: len(wanted[1])]) == wanted, (file, ran)
+
+
+def transcripts(program):
+    """Tests that each command in README.md prints what stands below it."""
+    blocks = [it for it in (EXAMPLE / "README.md").read_text().split("```")[1::2] if it.startswith("\n$ ")]
+    for part in "".join(blocks).split("\n$ ")[1:]:
+        command, _, printed = part.partition("\n")
+        ran = subprocess.run(command.replace("../../tsotest", str(program)), shell=True, cwd=EXAMPLE, stdout=subprocess.PIPE)
+        assert ran.stdout.decode().rstrip("\n") == printed.rstrip("\n"), (command, ran.stdout.decode())
+    assert blocks
 
 
 def main():
-    for name, (test, program, condition) in PUBLISHED.items():
-        assert herd.from_herd(test) == program, (name, herd.from_herd(test))
-        assert herd.condition(test) == condition, (name, herd.condition(test))
-    for test, begins in REFUSED.items():
-        assert refusal_of(herd.from_herd, test).startswith(begins), (test, refusal_of(herd.from_herd, test))
-    log = "Test SB Allowed\nHistogram (2 states)\n12    *>0:EAX=0; 1:EAX=0;\n500   :>0:EAX=1; 1:EAX=0; x=1;\nOk\n"
-    named = "Test SB Allowed\nHistogram (2 states)\n12    *>0:r0=0; 1:r0=0;\n500   :>0:r0=1; 1:r0=0; x=1;\nOk\n"
-    assert herd.from_log(PUBLISHED["SB"][0], log) == named
-    classics = sorted((TOP / "crates/cases/data/classics").glob("*.litmus"))
-    for file in classics:
-        program, recording = file.read_text(), json.loads(file.with_suffix(".json").read_text())
-        test = herd.to_herd(program, recording, file.stem)
-        assert herd.from_herd(test) == program, file
-        # The condition has the value of each read, in program order, and of each address the last one written.
-        events = [e for core in recording["cores"] for e in core]
-        reads = [f"{c}:r{k}={r}" for c, core in enumerate(recording["cores"]) for k, r in enumerate(e["r"] for e in core if "r" in e)]
-        last = sorted(events[it[-1]]["w"] for it in recording["writes"] if it)
-        items = herd.condition(test).split() if reads or last else []
-        assert [it for it in items if ":" in it] == reads and sorted(int(it.split("=")[1]) for it in items if ":" not in it) == last, file
-    dice = random.Random(2026)
-    for _ in range(1000):
-        program = random_program(dice)
-        assert herd.from_herd(herd.to_herd(program)) == program, program
-    print(f"herd: {len(PUBLISHED)} published tests, {len(REFUSED)} refused, {len(classics)} classics and 1000 random programs there and back")
+    count = cases()
+    command_lines()
+    classics()
+    randoms(1000)
+    print(f"herd: {count} cases; {len(CLASSICS)} classics and 1000 random programs there and back")
+    if len(sys.argv) > 1:
+        program = Path(sys.argv[1]).resolve()
+        observed(program)
+        transcripts(program)
 
 
 if __name__ == "__main__":
