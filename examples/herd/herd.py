@@ -432,7 +432,7 @@ def performed(it):
     """What a command prints."""
     if it.command == "to_herd":
         name = Path(it.PROGRAM).stem
-        title = name if re.fullmatch(r"[A-Za-z][A-Za-z0-9_+.-]*", name) else "program"
+        title = name if re.fullmatch(r"[A-Za-z0-9][A-Za-z0-9_+.-]*", name) else "program"
         return to_herd(read(it.PROGRAM), read(it.recording) if it.recording else None, title)
     if it.command == "from_log":
         return from_log(read(it.TEST), read(it.LOG))
