@@ -72,7 +72,8 @@ def program_of(text):
     cores, initial = [], {}
     for number, line in enumerate(text.splitlines(), 1):
         words = line.split(" ")
-        if not LINE.fullmatch(line) or any(int(it) >= MODULUS for it in words[2:]) or not cores and words != ["core"]:
+        is_line = LINE.fullmatch(line) and all(int(it) < MODULUS for it in words[2:]) and (cores or words == ["core"])
+        if not is_line or words[0] == "init" and words[1] not in names_of(cores):
             raise Refused(f"line {number}: not a line of a program")
         if words == ["core"]:
             cores.append([])
