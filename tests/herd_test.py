@@ -107,7 +107,7 @@ def random_program(dice):
     }
     lines = []
     for _ in range(dice.randint(1, 4)):
-        lines += ["core", *(make[dice.choice(list(make))]() for _ in range(dice.randrange(8)))]
+        lines += ["core", *(make[dice.choice(list(make))]() for _ in range(dice.randrange(6)))]
     used = dict.fromkeys(line.split()[1] for line in lines if " " in line)
     lines += [f"init {it} {dice.choice(numbers[1:])}" for it in used if dice.random() < 0.3]
     return "".join(f"{it}\n" for it in lines)
