@@ -18,6 +18,12 @@ struct text {
 };
 
 static struct tsotest_record record;
+/* What tsotest_dpi_hold asked for, no events where it was not called; and memory for it. */
+static struct {
+    int events, addresses, label_bytes;
+    void *memory;
+    size_t size;
+} held;
 static struct text recording, values, program, labels, verdict, explanation, drawing, reduction;
 /* Of the last call of judge, of all runs before this one, and of all runs. */
 static struct tsotest_counts counts, sums_before, sums;
@@ -55,11 +61,14 @@ typedef enum tsotest_fault recorded_text(struct tsotest_record *, char *, size_t
 /* Fills a text from the record, and says whether that could be. */
 static int is_recorded(struct text *text, recorded_text *of)
 {
+    /* No text of a short run is longer than its labels may be, and few of a long one have more than 40 bytes an event. */
+    size_t len = TSOTEST_MAX_LABELS_BYTES + 40 * (size_t)record.events;
     text->len = 0;
-    /* No text of a record is longer than its labels may be. */
-    if (has_room(text, TSOTEST_MAX_LABELS_BYTES) && !of(&record, text->bytes, text->room - 1, &text->len))
-        return 1;
-    text->len = 0;
+    for (int tries = 0; tries < 2 && has_room(text, len); tries++)
+        if (!of(&record, text->bytes, text->room - 1, &len)) {
+            text->len = len;
+            return 1;
+        }
     return 0;
 }
 
@@ -68,13 +77,19 @@ static int are_recorded(void)
     return is_recorded(&recording, tsotest_recording_text) && is_recorded(&program, tsotest_program_text);
 }
 
+/* Whether the record has more than the calls that take a program do, so that those of long recordings are asked. */
+static int is_long(void)
+{
+    return record.cores > TSOTEST_MAX_CORES || record.events > TSOTEST_MAX_EVENTS || record.names > TSOTEST_MAX_ADDRESSES;
+}
+
 typedef uint8_t text_of(const char *, size_t, const char *, size_t, char *, size_t, size_t *);
 
 /* Fills a text from the recording and its program. */
 static const char *answered(struct text *text, text_of *of)
 {
     size_t len = 65535;
-    int has_texts = are_recorded();
+    int has_texts = is_recorded(&recording, tsotest_recording_text) && (is_long() || is_recorded(&program, tsotest_program_text));
     for (int tries = 0; has_texts && tries < 2; tries++) {
         uint8_t status;
         if (!has_room(text, len))
@@ -102,6 +117,16 @@ static uint8_t draw_all(const char *text, size_t len, const char *names, size_t 
     return tsotest_draw(text, len, names, names_len, true, out, room, size);
 }
 
+static uint8_t explain(const char *text, size_t len, const char *names, size_t names_len, char *out, size_t room, size_t *size)
+{
+    return is_long() ? tsotest_explain_long(text, len, out, room, size) : tsotest_explain(text, len, names, names_len, out, room, size);
+}
+
+static uint8_t reduce(const char *text, size_t len, const char *names, size_t names_len, char *out, size_t room, size_t *size)
+{
+    return is_long() ? tsotest_reduce_long(text, len, out, room, size) : tsotest_reduce(text, len, names, names_len, out, room, size);
+}
+
 /* Takes the run out of what was counted. */
 static void uncount_run(void)
 {
@@ -126,14 +151,15 @@ static void begin_run(void)
 
 static int judged(void)
 {
-    size_t len = 65535;
     int has_text = is_recorded(&recording, tsotest_recording_text);
+    size_t len = is_long() ? TSOTEST_LONG_VERDICT_BYTES(record.events) : 65535;
     nothing(&verdict);
     uncount_run();
     if (record.error)
         return tsotest_is_of_design(record.error) ? BROKEN : MISUSED;
     for (int tries = 0; has_text && tries < 2 && has_room(&verdict, len); tries++) {
-        uint8_t status = tsotest_judge(recording.bytes, recording.len, verdict.bytes, verdict.room - 1, &len);
+        uint8_t status = (is_long() ? tsotest_judge_long : tsotest_judge)(recording.bytes, recording.len, verdict.bytes,
+                                                                          verdict.room - 1, &len);
         if (status == TSOTEST_REFUSED) {
             tsotest_record_fail(&record, TSOTEST_FULL, "the judge refuses the recording");
             return MISUSED;
@@ -148,6 +174,20 @@ static int judged(void)
     }
     tsotest_record_fail(&record, TSOTEST_FULL, "out of memory");
     return MISUSED;
+}
+
+/* Begins a recording in memory that is held for it, of as many cores as there may be. */
+static void begin_held(int cores)
+{
+    const size_t most = TSOTEST_RECORD_BYTES(TSOTEST_MAX_LONG_CORES, TSOTEST_MAX_LONG_EVENTS, TSOTEST_MAX_LONG_ADDRESSES,
+                                             TSOTEST_MAX_LABEL_BYTES);
+    size_t size = TSOTEST_RECORD_BYTES(TSOTEST_MAX_LONG_CORES, held.events, held.addresses, held.label_bytes);
+    if (held.size < size && size <= most) {
+        free(held.memory);
+        held.memory = malloc(size);
+        held.size = held.memory ? size : 0;
+    }
+    tsotest_record_begin_in(&record, cores, held.events, held.addresses, held.label_bytes, held.memory, held.size);
 }
 
 static double now(void)
@@ -175,9 +215,19 @@ static int is_written(const char *prefix, const char *suffix, struct text *text)
 extern "C" {
 #endif
 
+void tsotest_dpi_hold(int events, int addresses, int label_bytes)
+{
+    held.events = events;
+    held.addresses = addresses;
+    held.label_bytes = label_bytes;
+}
+
 void tsotest_dpi_begin(int cores)
 {
-    tsotest_record_begin(&record, cores);
+    if (held.events)
+        begin_held(cores);
+    else
+        tsotest_record_begin(&record, cores);
     begin_run();
 }
 
@@ -301,7 +351,7 @@ const char *tsotest_dpi_verdict(void)
 
 const char *tsotest_dpi_explanation(void)
 {
-    return answered(&explanation, tsotest_explain);
+    return answered(&explanation, explain);
 }
 
 const char *tsotest_dpi_drawing(unsigned char all)
@@ -311,7 +361,7 @@ const char *tsotest_dpi_drawing(unsigned char all)
 
 const char *tsotest_dpi_reduction(void)
 {
-    return answered(&reduction, tsotest_reduce);
+    return answered(&reduction, reduce);
 }
 
 int tsotest_dpi_save(const char *prefix)

@@ -30,6 +30,7 @@ import ctypes
 import ctypes.util
 import operator
 import os
+from collections import deque
 from enum import IntEnum
 from functools import lru_cache
 from pathlib import Path
@@ -42,6 +43,7 @@ __all__ = [
 ]
 
 MAX_CORES, MAX_EVENTS, MAX_ADDRESSES, MAX_LABEL_BYTES = 16, 512, 16, 64
+MAX_LONG_CORES, MAX_LONG_EVENTS, MAX_LONG_ADDRESSES = 1024, 16777216, 65536
 
 
 class Status(IntEnum):
@@ -161,8 +163,8 @@ def _line(recording):
 
 
 def _answer(call, *given):
-    """What a call answers, with as much room as its text needs."""
-    room, length = 65536, ctypes.c_size_t()
+    """What a call answers, with as much room as its text needs. An order is shorter than its recording, so that one call does."""
+    room, length = max([65536, *(len(it) for it in given if isinstance(it, bytes))]), ctypes.c_size_t()
     while True:
         out = ctypes.create_string_buffer(room)
         status = call(*given, out, room, ctypes.byref(length))
@@ -337,6 +339,9 @@ class Recorder:
     value, nor the initial one. Where values repeat, name sources by `source` and commits by `commit_event`. Each call that records an
     event gives its number, from 0.
 
+    A recording has up to 1,024 cores, 16,777,216 events and 65,536 addresses, as far as memory goes: some 500 bytes an event, with its text. `judge`
+    judges one of more than 16 cores, 512 events or 16 addresses as `judge_long` does.
+
     An address and a value are whole numbers from 0 to 2^64 - 1. The text has a number in place of each value above 2^32 - 1, as
     tsotest_record.h says; a message has the value.
 
@@ -345,13 +350,13 @@ class Recorder:
     """
 
     def __init__(self, cores):
-        """Begins a recording of this many cores, 0 to 16."""
+        """Begins a recording of this many cores, 0 to 1,024."""
         self._fault = None
         self.cores, self._events, self._commits, self._initial, self._addresses = self._whole("cores", cores), [], [], {}, set()
         self._may_be_empty = self._is_continued = False
         self._labels = {}
-        if self.cores > MAX_CORES:
-            self._fail(f"{cores} cores: a recording has {MAX_CORES} at most")
+        if self.cores > MAX_LONG_CORES:
+            self._fail(f"{cores} cores: a recording has {MAX_LONG_CORES} at most")
 
     def next(self):
         """The recorder of a run that begins with what this one left in memory: of each address the value that reached it last.
@@ -473,8 +478,11 @@ class Recorder:
         return "".join(f"{it}\n" for it in lines)
 
     def judge(self):
-        """The verdict on what was recorded."""
-        return judge(self.recording())
+        """The verdict on what was recorded: that of `judge_long` where it has more than `judge` takes."""
+        text = self.recording()
+        used = len({it.address for it in self._events if it.address is not None})
+        is_long = self.cores > MAX_CORES or len(self._events) > MAX_EVENTS or used > MAX_ADDRESSES
+        return (judge_long if is_long else judge)(text)
 
     def counts(self):
         """How much was recorded, in one run."""
@@ -517,15 +525,16 @@ class Recorder:
 
     def _used(self, address):
         address = self._whole("the address", address)
-        if len(self._addresses | {address}) > MAX_ADDRESSES:
-            self._fail(f"address 0x{address:x} is the 17th: a recording has {MAX_ADDRESSES} at most")
-        self._addresses.add(address)
+        if address not in self._addresses:
+            if len(self._addresses) == MAX_LONG_ADDRESSES:
+                self._fail(f"more than {MAX_LONG_ADDRESSES} addresses: 0x{address:x} is one more")
+            self._addresses.add(address)
         return address
 
     def _event(self, kind, core, address, read, written):
         core = self._core(core)
-        if len(self._events) == MAX_EVENTS:
-            self._fail(f"more than {MAX_EVENTS} events")
+        if len(self._events) == MAX_LONG_EVENTS:
+            self._fail(f"more than {MAX_LONG_EVENTS} events")
         self._events.append(_Event(kind, core, None if kind == "F" else self._used(address), read, written))
         return len(self._events) - 1
 
@@ -536,12 +545,15 @@ class Recorder:
         return self._events[event]
 
     def _commit(self, core, address, value, event=None, is_merged=False):
-        if len(self._commits) == MAX_EVENTS:
-            self._fail(f"more than {MAX_EVENTS} commits")
+        if len(self._commits) == MAX_LONG_EVENTS:
+            self._fail(f"more than {MAX_LONG_EVENTS} commits")
         self._commits.append(_Commit(core, address, value, event, is_merged))
 
     def _by_core(self):
-        return [[it for it in self._events if it.core == core] for core in range(self.cores)]
+        cores = [[] for _ in range(self.cores)]
+        for it in self._events:
+            cores[it.core].append(it)
+        return cores
 
     def _place(self, event):
         it = self._events[event]
@@ -573,8 +585,12 @@ class Recorder:
         return names, committed, self._numbers(ordered, names)
 
     def _names(self, ordered):
-        """The addresses that events use, in order of first use."""
-        return list(dict.fromkeys(it.address for it in ordered if it.address is not None))
+        """The addresses that events use, in order of first use: of each its number."""
+        names = {}
+        for it in ordered:
+            if it.address is not None:
+                names.setdefault(it.address, len(names))
+        return names
 
     def _numbers(self, ordered, names):
         """What the text has for a value: each above 2^32 - 1 is numbered by its first use there."""
@@ -588,6 +604,11 @@ class Recorder:
 
     def _settle_commits(self, writes):
         committed, seen = {}, set()
+        stores = {}  # of each core and address, those that no merged commit has passed, in program order
+        if any(it.is_merged for it in self._commits):
+            for event, it in enumerate(self._events):
+                if it.kind == "S":
+                    stores.setdefault((it.core, it.address), deque()).append(event)
 
         def take(event):
             it = self._events[event]
@@ -599,9 +620,10 @@ class Recorder:
         for commit in self._commits:
             event = self._committed(commit, writes) if commit.event is None else commit.event
             if commit.is_merged and self._events[event].kind == "S" and event not in seen:
-                for older in range(event):
-                    it = self._events[older]
-                    if (it.kind, it.core, it.address) == ("S", commit.core, commit.address) and older not in seen:
+                waiting = stores[commit.core, commit.address]
+                while waiting[0] < event:
+                    older = waiting.popleft()
+                    if older not in seen:
                         take(older)
             take(event)
         for event, it in enumerate(self._events):
@@ -645,7 +667,7 @@ class Recorder:
         return ",".join("[" + ",".join(self._event_text(it, source_of(it), names, number_of) for it in core) + "]" for core in self._by_core())
 
     def _event_text(self, it, source, names, number_of):
-        parts = [f'"a":{names.index(it.address)}'] if it.address is not None else []
+        parts = [f'"a":{names[it.address]}'] if it.address is not None else []
         parts.append(f'"k":"{it.kind}"')
         if it.read is not None:
             parts.append(f'"r":{number_of(it.read)}')
@@ -656,7 +678,7 @@ class Recorder:
         return "{" + ",".join(parts) + "}"
 
     def _name(self, address, names):
-        return f"x{address:x}" if address < 1 << 28 else f"a{names.index(address)}"
+        return f"x{address:x}" if address < 1 << 28 else f"a{names[address]}"
 
     def _operation(self, it, names, number_of):
         if it.kind == "F":

@@ -10,6 +10,8 @@
 /* The recorder has the limits of the library. */
 _Static_assert(TSOTEST_RECORD_CORES == TSOTEST_MAX_CORES && TSOTEST_RECORD_EVENTS == TSOTEST_MAX_EVENTS
                    && TSOTEST_RECORD_ADDRESSES == TSOTEST_MAX_ADDRESSES, "limits");
+_Static_assert(TSOTEST_RECORD_LONG_CORES == TSOTEST_MAX_LONG_CORES && TSOTEST_RECORD_LONG_EVENTS == TSOTEST_MAX_LONG_EVENTS
+                   && TSOTEST_RECORD_LONG_ADDRESSES == TSOTEST_MAX_LONG_ADDRESSES, "limits of long recordings");
 
 enum { ALLOWED = 0, OVERLOOK = 1, CYCLE = 2 };
 
@@ -260,6 +262,86 @@ static void unsaved(const char *prefix)
     assert(answer == 1 && tsotest_dpi_save(own) == 0);
 }
 
+/* Message passing of the last of some cores to the first, after fences of the others, over more addresses. */
+static void long_passing(int cores, int fences, int addresses, uint64_t read)
+{
+    tsotest_dpi_begin(cores);
+    for (int i = 0; i < fences; i++)
+        tsotest_dpi_fence(i % (cores - 2) + 1);
+    for (int i = 0; i < addresses; i++)
+        tsotest_dpi_load(5, 0x1000 + 8 * (uint64_t)i, 0);
+    tsotest_dpi_store(cores - 1, 0x40, 1);
+    tsotest_dpi_store(cores - 1, 0x44, 2);
+    tsotest_dpi_load(0, 0x44, 2);
+    tsotest_dpi_load(0, 0x40, read);
+    tsotest_dpi_commit(cores - 1, 0x40, 1);
+    tsotest_dpi_commit(cores - 1, 0x44, 2);
+}
+
+/* What is judged by tsotest_judge_long though it need not be has no labels in its cycles, and what is judged by tsotest_judge though it is
+ * too long is refused. Room that is forgotten at the next begin or `continue`, or that stays after hold(0). */
+static void held_runs(const char *prefix)
+{
+    char *direct = malloc(65536), path[1000];
+    size_t len;
+    snprintf(path, sizeof path, "%s-long", prefix);
+    tsotest_dpi_hold(3000, 20, 16);
+    for (int round = 0; round < 3; round++) {
+        int fences = round == 0 ? 2000 : 0, addresses = round == 1 ? 15 : 0, cores = round == 2 ? 1024 : 16;
+        long_passing(cores, fences, addresses, 1);
+        assert(tsotest_dpi_judge() == ALLOWED && !strncmp(tsotest_dpi_verdict(), "ordered: ", 9));
+        assert(tsotest_dpi_events() == (uint64_t)(fences + addresses + 4) && tsotest_dpi_foreign_reads() == 2);
+        long_passing(cores, fences, addresses, 0);
+        tsotest_dpi_label(tsotest_dpi_last_event(), "cycle 1234567890");
+        assert(tsotest_dpi_judge() == CYCLE && !strncmp(tsotest_dpi_verdict(), "cycle of ", 9) && !strstr(tsotest_dpi_verdict(), "labels"));
+        const char *text = tsotest_dpi_recording();
+        assert(tsotest_judge(text, strlen(text), direct, 65536, &len) == TSOTEST_REFUSED);
+        assert(tsotest_explain_long(text, strlen(text), direct, 65535, &len) == TSOTEST_VIOLATION && len < 65536);
+        direct[len] = '\0';
+        assert(*direct && !strcmp(tsotest_dpi_explanation(), direct));
+        assert(tsotest_reduce_long(text, strlen(text), direct, 65535, &len) == TSOTEST_VIOLATION && len < 65536);
+        direct[len] = '\0';
+        assert(*direct && !strcmp(tsotest_dpi_reduction(), direct) && !*tsotest_dpi_drawing(0) && !*tsotest_dpi_drawing(1));
+        assert(strstr(tsotest_dpi_labels(), "\ncycle 1234567890\n") && lines_of(tsotest_dpi_program()) == cores + fences + addresses + 4);
+        assert(tsotest_dpi_save(path) == 0);
+        tsotest_dpi_continue();
+        assert(!*tsotest_dpi_verdict());
+        for (int i = 0; i < 3001; i++)
+            tsotest_dpi_fence(cores - 1);
+        assert(tsotest_dpi_judge() == MISUSED && strstr(tsotest_dpi_message(), "more than 3000 events"));
+    }
+    /* A text of more than 40 bytes an event. */
+    tsotest_dpi_begin(16);
+    for (uint64_t i = 0; i < 3000; i++) {
+        tsotest_dpi_rmw((int)(i / 188), 0x40, i ? 4294960000u + i : 0, 4294960001u + i);
+        tsotest_dpi_commit((int)(i / 188), 0x40, 4294960001u + i);
+    }
+    assert(tsotest_dpi_judge() == ALLOWED && strlen(tsotest_dpi_recording()) > TSOTEST_MAX_LABELS_BYTES + 40 * 3000);
+    assert(!strncmp(tsotest_dpi_verdict(), "ordered: 0 1 2 ", 15) && lines_of(tsotest_dpi_program()) == 16 + 3000);
+    /* A short run in this room is one as ever. */
+    message_passing(0);
+    assert(tsotest_dpi_judge() == CYCLE && strstr(tsotest_dpi_verdict(), "labels 0:") && strstr(tsotest_dpi_explanation(), "(MP)"));
+    assert(*tsotest_dpi_drawing(0));
+    tsotest_dpi_label(0, "cycle 12345678901");
+    assert(tsotest_dpi_judge() == MISUSED && strstr(tsotest_dpi_message(), "more than 16 bytes"));
+    tsotest_dpi_begin(1025);
+    assert(tsotest_dpi_judge() == MISUSED && strstr(tsotest_dpi_message(), "1025 cores"));
+    tsotest_dpi_hold(-1, 20, 16);
+    tsotest_dpi_begin(2);
+    assert(tsotest_dpi_judge() == MISUSED && strstr(tsotest_dpi_message(), "room for -1 events"));
+    tsotest_dpi_hold(100, 2, 0);
+    message_passing(1);
+    assert(tsotest_dpi_judge() == ALLOWED);
+    tsotest_dpi_load(0, 0x48, 0);
+    assert(tsotest_dpi_judge() == MISUSED && strstr(tsotest_dpi_message(), "more than 2 addresses"));
+    tsotest_dpi_hold(0, 0, 0);
+    tsotest_dpi_begin(2);
+    for (int i = 0; i < 513; i++)
+        tsotest_dpi_fence(0);
+    assert(tsotest_dpi_judge() == MISUSED && strstr(tsotest_dpi_message(), "more than 512 events"));
+    free(direct);
+}
+
 /* Values alone, without a commit. */
 static void alone(void)
 {
@@ -322,8 +404,10 @@ int main(int argc, char **argv)
     long_texts();
     seconds_of_all();
     unsaved(argv[1]);
+    held_runs(argv[1]);
     struct text *texts[] = {&recording, &values, &program, &verdict, &explanation, &drawing, &reduction};
     for (int i = 0; i < 7; i++)
         free(texts[i]->bytes);
+    free(held.memory);
     tsotest_dpi_exit(0);
 }

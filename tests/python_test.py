@@ -206,11 +206,9 @@ def recorders():
     store = ("store", 0, 0x40, 1)
     commit = ("commit", 0, 0x40, 1)
     wanted = [
-        (lambda: tsotest.Recorder(17), "17 cores", False),
+        (lambda: tsotest.Recorder(1025), "1025 cores: a recording has 1024 at most", False),
         (lambda: of(2, ("fence", 2)), "core 2: the recording has 2", False),
-        (lambda: of(1, *[("fence", 0)] * 513), "more than 512 events", False),
-        (lambda: of(1, *[commit] * 513), "more than 512 commits", False),
-        (lambda: of(1, *[("load", 0, it, 0) for it in range(17)]), "address 0x10 is the 17th", False),
+        (lambda: of(1, *[("load", 0, it, 0) for it in range(65537)]), "more than 65536 addresses: 0x10000 is one more", False),
         (lambda: of(1, ("load", 0, 0x40, 3)), "operation 0 of core 0 read 3 from 0x40, which nobody wrote there", True),
         (lambda: of(1, ("fence", 0), store), "operation 1 of core 0 wrote 1 to 0x40, which never reached memory", True),
         (lambda: of(2, store, ("commit", 1, 0x40, 1)), "core 1: the value 1 reached 0x40, and this core executed no such write", True),
@@ -296,16 +294,69 @@ def next_runs():
         want = '{"cores":[[],[{"a":0,"k":"L","r":3,"s":null},{"a":1,"k":"L","r":8,"s":null}]],"init":[3,8],"version":2,"writes":[[],[]]}\n'
         if r.recording() != want:
             yield r.recording()
-    full = tsotest.Recorder(1)
+
+
+def full():
+    """After a fault a recorder does not go on; its limits are those of the module, which are small here."""
+    most, tsotest.MAX_LONG_EVENTS = tsotest.MAX_LONG_EVENTS, 512
+    r = tsotest.Recorder(1)
     for value in range(1, 514):
         try:
-            full.store(0, 0x40, value)
-            full.commit(0, 0x40, value)
+            r.store(0, 0x40, value)
+            r.commit(0, 0x40, value)
         except tsotest.NoRecording:
             pass
-    for call in (full.next, full.recording, full.program, full.judge, lambda: full.load(0, 0x40, 512), lambda: full.commit(0, 0x40, 512)):
+    for call in (r.next, r.recording, r.program, r.judge, lambda: r.load(0, 0x40, 512), lambda: r.commit(0, 0x40, 512)):
         if not refused(call, "more than 512 events", False):
             yield "a recorder goes on after a fault"
+    r = tsotest.Recorder(1)
+    for _ in range(512):
+        r.commit(0, 0x40, 1)
+    if not refused(lambda: r.commit(0, 0x40, 1), "more than 512 commits", False):
+        yield "a recorder takes more commits than events"
+    tsotest.MAX_LONG_EVENTS = most
+
+
+def long_runs(program):
+    """What is too long for `judge` is judged as by `judge --long`, and what is not has the labels that `judge` gives a cycle; each call for
+    long recordings prints what the program does."""
+    for cores, fences, addresses in ((16, 511, 0), (16, 509, 0), (16, 508, 0), (16, 0, 15), (16, 0, 14), (17, 0, 0)):
+        is_long = cores > 16 or fences > 508 or addresses > 14
+        for read in (1, 0):
+            r = tsotest.Recorder(cores)
+            for it in range(fences):
+                r.fence(it % (cores - 2) + 1)
+            for it in range(addresses):
+                r.load(1, 0x1000 + 8 * it, 0)
+            r.store(cores - 1, 0x40, 1)
+            r.store(cores - 1, 0x44, 2)
+            r.load(0, 0x44, 2)
+            r.load(0, 0x40, read)
+            r.commit(cores - 1, 0x40, 1)
+            r.commit(cores - 1, 0x44, 2)
+            with tempfile.NamedTemporaryFile("w") as file:
+                file.write(r.recording())
+                file.flush()
+                for call, words in ((tsotest.judge_long, ["judge"]), (tsotest.explain_long, ["explain"]), (tsotest.reduce_long, ["reduce"])):
+                    answer = call(r.recording())
+                    if (answer.status, answer.text) != commanded(program, [*words, "--long", file.name]):
+                        yield f"{words} --long of {cores} cores, {fences} fences, {addresses} addresses: {answer}"
+            answer = r.judge()
+            if answer.is_violation == bool(read) or (not read and ("labels" in answer.text) == is_long):
+                yield f"{cores} cores, {fences} fences, {addresses} addresses: {answer}"
+
+
+def long_merges():
+    """Stores that merge by the thousand, in order: a merge that passes all events takes minutes."""
+    r, stores = tsotest.Recorder(2), 20000
+    for value in range(1, stores + 1):
+        r.store(0, 0x40, value)
+        r.store(1, 0x40, value)
+        r.commit_merged(0, 0x40, value)
+    r.commit_merged(1, 0x40, stores)
+    writes = r.recording().split('"writes":')[1]
+    if writes != f"[[{','.join(map(str, range(2 * stores)))}]]}}\n":
+        yield "merged stores of a long run"
 
 
 def empty():
@@ -461,6 +512,7 @@ def main():
     with ThreadPoolExecutor(4) as pool:
         failed = [it for part in pool.map(lambda file: [*differs(program, file)], files) for it in part]
     failed += [*surveyed(program), *layouts(), *coded(), *listed(program), *completed(program), *recorders(), *values_alone(), *next_runs()]
+    failed += [*full(), *long_runs(program), *long_merges()]
     failed += [*empty(), *labelled(), *counted(), *values(), *merged(), *names()]
     if tsotest.version() + "\n" != commanded(program, ["--version"])[1]:
         failed.append(f"the version is {tsotest.version()}")

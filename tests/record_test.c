@@ -269,6 +269,10 @@ static void empty(void)
     fails(TSOTEST_EMPTY, false, "no event was recorded");
     tsotest_record_begin(&r, 2);
     tsotest_record_allow_empty(&r);
+    tsotest_record_commit(&r, 0, 0x40, 1);
+    fails(TSOTEST_STRAY_COMMIT, true, "core 0: the value 1 reached 0x40, and this core executed no such write");
+    tsotest_record_begin(&r, 2);
+    tsotest_record_allow_empty(&r);
     gives(tsotest_recording_text, "{\"cores\":[[],[]],\"version\":1,\"writes\":[]}\n");
     assert(judged() == TSOTEST_ALLOWED);
     logs("cores 2\nempty\n");
@@ -408,6 +412,18 @@ static void wide_values(void)
     tsotest_record_store(&r, 0, 0x40, 3 * wide);
     tsotest_record_commit(&r, 0, 0x40, 3 * wide);
     gives(tsotest_recording_text, "{\"cores\":[[{\"a\":0,\"k\":\"S\",\"w\":1}],[]],\"init\":[2],\"version\":2,\"writes\":[[0]]}\n");
+    /* A wide initial value where no write is wide, and a small one whose number is in use. */
+    tsotest_record_begin(&r, 1);
+    tsotest_record_initial(&r, 0x40, other);
+    tsotest_record_load(&r, 0, 0x40, other);
+    gives(tsotest_recording_text, "{\"cores\":[[{\"a\":0,\"k\":\"L\",\"r\":1,\"s\":null}]],\"init\":[1],\"version\":2,\"writes\":[[]]}\n");
+    tsotest_record_begin(&r, 1);
+    tsotest_record_initial(&r, 0x40, 1);
+    tsotest_record_load(&r, 0, 0x40, 1);
+    tsotest_record_store(&r, 0, 0x44, wide);
+    tsotest_record_commit(&r, 0, 0x44, wide);
+    gives(tsotest_recording_text, "{\"cores\":[[{\"a\":0,\"k\":\"L\",\"r\":1,\"s\":null},{\"a\":1,\"k\":\"S\",\"w\":2}]],"
+                                  "\"init\":[1,0],\"version\":2,\"writes\":[[],[1]]}\n");
     /* The low half of a value is another value. */
     tsotest_record_begin(&r, 1);
     tsotest_record_store(&r, 0, 64, wide);
@@ -444,6 +460,17 @@ static void many_wide_values(void)
     static const char *front = "{\"cores\":[[{\"a\":0,\"k\":\"R\",\"r\":2,\"s\":null,\"w\":4},{\"a\":1,\"k\":\"R\",\"r\":6,\"s\":null,\"w\":1},"
                                "{\"a\":2,\"k\":\"R\",\"r\":8,\"s\":null,\"w\":10},";
     assert(tsotest_recording_text(&r, out, sizeof out, &len) == TSOTEST_NO_FAULT && !memcmp(out, front, strlen(front)));
+    /* Numbers up to 17 are free, and odd ones above: the last of 272 wide values has 527, since values up to 528 are in use. */
+    tsotest_record_begin(&r, 1);
+    for (uint64_t i = 0; i < 512; i++) {
+        if (i < 16)
+            tsotest_record_initial(&r, i, UINT64_MAX - i);
+        tsotest_record_store(&r, 0, i % 16, i % 2 ? i + 17 : UINT64_MAX / 2 + i);
+        tsotest_record_commit(&r, 0, i % 16, i % 2 ? i + 17 : UINT64_MAX / 2 + i);
+    }
+    assert(tsotest_recording_text(&r, out, sizeof out - 1, &len) == TSOTEST_NO_FAULT);
+    out[len] = '\0';
+    assert(strstr(out, ",\"w\":495},{\"a\":15,\"k\":\"S\",\"w\":528}]],") && strstr(out, ",525,527],\"version\":2"));
 }
 
 /* A store buffer that merges: core 0 stores 1 and 2 to x, of which memory sees 2 alone, and then 1 to y. Its bug: the store of 2 comes
@@ -605,7 +632,7 @@ static void refusals(void)
     tsotest_record_begin(&r, 1);
     for (int i = 0; i < 17; i++)
         tsotest_record_load(&r, 0, 0xF000000000000000u + (uint64_t)i, 0);
-    fails(TSOTEST_FULL, false, "0xf000000000000010 is the 17th");
+    fails(TSOTEST_FULL, false, "more than 16 addresses: 0xf000000000000010 is one more");
     tsotest_record_begin(&r, 1);
     for (int i = 0; i < 513; i++)
         tsotest_record_commit(&r, 0, 0, 0);
@@ -664,8 +691,56 @@ static void refusals(void)
     fails(TSOTEST_STRAY_VALUE, true, "read 8 from 0x40, and its source wrote 0");
 }
 
+/* A call after a text that leaves the next text as it was. */
+static void after_texts(void)
+{
+    struct tsotest_counts sums = {0, 0, 0, 0};
+    tsotest_record_begin(&r, 2);
+    int a = tsotest_record_store(&r, 0, 0x40, 5), b = tsotest_record_store(&r, 1, 0x40, 5), c = tsotest_record_store(&r, 1, 0x44, 6);
+    int l = tsotest_record_load(&r, 0, 0x44, 0), m = tsotest_record_load(&r, 1, 0x40, 5);
+    tsotest_record_source(&r, m, a);
+    tsotest_record_commit_event(&r, a);
+    tsotest_record_commit_event(&r, b);
+    tsotest_record_commit_event(&r, c);
+#define TEXT(read, source, other, init)                                                                                        \
+    "{\"cores\":[[{\"a\":0,\"k\":\"S\",\"w\":5},{\"a\":1,\"k\":\"L\",\"r\":" read ",\"s\":" source "}],[{\"a\":0,\"k\":\"S\",\"w\":5},"    \
+    "{\"a\":1,\"k\":\"S\",\"w\":6},{\"a\":0,\"k\":\"L\",\"r\":5,\"s\":" other "}]]," init ",\"writes\":[[0,2],[3]]}\n"
+    gives(tsotest_recording_text, TEXT("0", "null", "0", "\"version\":1"));
+    assert(tsotest_record_count(&r, &sums) == TSOTEST_NO_FAULT && sums.foreign_reads == 1);
+    tsotest_record_value(&r, l, 6);
+    gives(tsotest_recording_text, TEXT("6", "3", "0", "\"version\":1"));
+    assert(tsotest_record_count(&r, &sums) == TSOTEST_NO_FAULT && sums.foreign_reads == 3);
+    tsotest_record_source(&r, m, b);
+    gives(tsotest_recording_text, TEXT("6", "3", "2", "\"version\":1"));
+    assert(tsotest_record_count(&r, &sums) == TSOTEST_NO_FAULT && sums.foreign_reads == 4);
+    tsotest_record_initial(&r, 0x44, 9);
+    gives(tsotest_recording_text, TEXT("6", "3", "2", "\"init\":[0,9],\"version\":2"));
+    gives(tsotest_values_text, "{\"cores\":[[{\"a\":0,\"k\":\"S\",\"w\":5},{\"a\":1,\"k\":\"L\",\"r\":6}],[{\"a\":0,\"k\":\"S\",\"w\":5},"
+                               "{\"a\":1,\"k\":\"S\",\"w\":6},{\"a\":0,\"k\":\"L\",\"r\":5,\"s\":2}]],\"init\":[0,9],\"version\":3}\n");
+    gives(tsotest_recording_text, TEXT("6", "3", "2", "\"init\":[0,9],\"version\":2"));
+#undef TEXT
+    tsotest_record_commit_event(&r, c);
+    fails(TSOTEST_STRAY_COMMIT, true, "core 1: the value 6 reached 0x44 twice");
+}
+
+/* A begin that looks at what the record holds, which may be anything. */
+static void any_memory(void)
+{
+    memset(&r, 0xA5, sizeof r);
+    tsotest_record_begin(&r, 1);
+    tsotest_record_store(&r, 0, 0x40, 1);
+    tsotest_record_commit(&r, 0, 0x40, 1);
+    gives(tsotest_recording_text, "{\"cores\":[[{\"a\":0,\"k\":\"S\",\"w\":1}]],\"version\":1,\"writes\":[[0]]}\n");
+    gives(tsotest_labels_text, "\n");
+    tsotest_record_continue(&r);
+    tsotest_record_load(&r, 0, 0x40, 1);
+    gives(tsotest_recording_text, "{\"cores\":[[{\"a\":0,\"k\":\"L\",\"r\":1,\"s\":null}]],\"init\":[1],\"version\":2,\"writes\":[[]]}\n");
+}
+
 int main(void)
 {
+    any_memory();
+    after_texts();
     texts();
     values_alone();
     expected_value();
@@ -683,6 +758,6 @@ int main(void)
     queued_invalidations();
     longest();
     refusals();
-    assert(sizeof r <= 63 * 1024);
+    assert(sizeof r <= 77 * 1024);
     return 0;
 }

@@ -151,6 +151,59 @@ def alone(text, has_sources):
     return json.dumps(values, sort_keys=True, separators=(",", ":")) + "\n"
 
 
+def long_recording(rng, cores, count, addresses):
+    """A recording of cores with store buffers over one memory, all in order, and its text: each write has a value of its own."""
+    events, order, memory = [[] for _ in range(cores)], [[] for _ in range(addresses)], [(0, None)] * addresses
+    buffers, value = [[] for _ in range(cores)], 0
+    for _ in range(count):
+        core, a = rng.randrange(cores), rng.randrange(addresses)
+        kind = rng.choice("LLLSSSRF")
+        while buffers[core] and (kind in "RF" or rng.random() < 0.3):
+            address, event = buffers[core].pop(0)
+            order[address].append(event)
+            memory[address] = event["w"], event
+        it = {"k": kind} if kind == "F" else {"a": a, "k": kind}
+        if kind in "LR":
+            it["r"], it["s"] = next(((event["w"], event) for address, event in reversed(buffers[core]) if address == a), memory[a])
+        if kind in "SR":
+            value += 1
+            it["w"] = value
+        if kind == "S":
+            buffers[core].append((a, it))
+        if kind == "R":
+            order[a].append(it)
+            memory[a] = value, it
+        events[core].append(it)
+    for address, event in (it for buffer in buffers for it in buffer):
+        order[address].append(event)
+    numbers = {id(it): number for number, it in enumerate(it for core in events for it in core)}
+    names = {}
+    for it in (it for core in events for it in core if "a" in it):
+        it["a"] = names.setdefault(it["a"], len(names))
+    for it in (it for core in events for it in core if "s" in it):
+        it["s"] = None if it["s"] is None else numbers[id(it["s"])]
+    recording = {"cores": events, "version": 1, "writes": [[numbers[id(it)] for it in order[a]] for a in names]}
+    return recording, json.dumps(recording, sort_keys=True, separators=(",", ":")) + "\n"
+
+
+def check_long(filter_):
+    """A long recording comes back from both recorders, and TSO allows it."""
+    rng = random.Random(1)
+    recording, text = long_recording(rng, 40, 20000, 100)
+    order = taken_apart(recording, rng)
+    log = recorded(Log(40), recording, order, True)
+    python = recorded(Python(40), recording, order, True)
+    made = from_log(filter_, log.lines, "--events", "20000")
+    if made.stdout != text or python.recording() != text:
+        sys.exit(f"a long recording: {made.stderr}")
+    if python.judge().status != tsotest.Status.ALLOWED or not python.judge().text.startswith("ordered: "):
+        sys.exit(f"a long recording: {python.judge().text[:80]}")
+    for words, said in ((["--events", "19999"], "more than 19999 events"), ([], "a recording has 16 at most"), (["--events", "0"], "no room for 0 events")):
+        made = from_log(filter_, log.lines, *words)
+        if made.returncode != 1 or made.stdout or said not in made.stderr:
+            sys.exit(f"a long recording with {words}: {made.stderr}")
+
+
 def from_log(filter_, lines, *options):
     return subprocess.run([filter_, *options], input="\n".join(lines) + "\n", capture_output=True, text=True)
 
@@ -159,6 +212,7 @@ def main():
     program, filter_ = sys.argv[1:3]
     wanted = int(sys.argv[3]) if len(sys.argv) > 3 else 200
     same = by_values = wide = stray = 0
+    check_long(filter_)
     for k in count():
         if same == wanted:
             break

@@ -17,10 +17,11 @@
  *
  * Numbers are decimal, or hexadecimal after 0x; values are below 2^64. A line that begins with # is left out.
  *
- * Usage: from_log [--values | --labels] [FILE..]; the lines of the files, one after another, are one log. Without a file, and for `-`,
- * it reads standard input. The recording goes to standard output; with --values the values alone, for which the log needs no commit;
- * with --labels the labels of its events, for `tsotest explain --labels`. The status is 0, or 1 where there is none: standard error
- * says why.
+ * Usage: from_log [--values | --labels] [--events N] [FILE..]; the lines of the files, one after another, are one log. Without a file,
+ * and for `-`, it reads standard input. The recording goes to standard output; with --values the values alone, for which the log needs
+ * no commit; with --labels the labels of its events, for `tsotest explain --labels`. A log has at most 512 events of 16 cores over 16
+ * addresses; with --events at most N, 1 to 16,777,216, of 1,024 cores over 65,536 addresses, for `tsotest judge --long`, in 150 bytes of
+ * memory for each of N. The status is 0, or 1 where there is no recording: standard error says why.
  *
  *   cc -O2 -I include examples/log/from_log.c -o from_log && ./from_log examples/log/mp.log | tsotest explain - */
 #include "tsotest_record.h"
@@ -30,6 +31,33 @@
 #include <stdlib.h>
 
 enum { MOST = 4 };
+
+/* Memory for as many events as --events says, 0 where it is not given. */
+static struct {
+    int events;
+    void *memory;
+    size_t size;
+} room;
+
+static void begin(struct tsotest_record *r, int cores)
+{
+    if (room.events)
+        tsotest_record_begin_in(r, cores, room.events, TSOTEST_RECORD_LONG_ADDRESSES, TSOTEST_MAX_LABEL_BYTES, room.memory, room.size);
+    else
+        tsotest_record_begin(r, cores);
+}
+
+/* Takes memory for as many events as a word says; 0, or -1. */
+static int make_room(const char *word)
+{
+    long events = strtol(word, NULL, 10);
+    if (events < 1 || events > TSOTEST_RECORD_LONG_EVENTS)
+        return -1;
+    room.events = (int)events;
+    room.size = TSOTEST_RECORD_BYTES(TSOTEST_RECORD_LONG_CORES, room.events, TSOTEST_RECORD_LONG_ADDRESSES, TSOTEST_MAX_LABEL_BYTES);
+    room.memory = malloc(room.size);
+    return room.memory ? 0 : -1;
+}
 
 /* The numbers of a line after its word, or -1. */
 static int numbers(char *at, uint64_t *found)
@@ -52,14 +80,14 @@ static int numbers(char *at, uint64_t *found)
 /* A core or an event, as the recorder takes it; it has none of so great a number. */
 static int place(uint64_t number)
 {
-    return number > 100000 ? 100000 : (int)number;
+    return number > INT32_MAX ? INT32_MAX : (int)number;
 }
 
 /* Records what a line with this many numbers says; 0, or -1. */
 static int record(struct tsotest_record *r, const char *word, int count, const uint64_t *n)
 {
     if (!strcmp(word, "cores") && count == 1)
-        tsotest_record_begin(r, place(n[0]));
+        begin(r, place(n[0]));
     else if (!strcmp(word, "empty") && count == 0)
         tsotest_record_allow_empty(r);
     else if (!strcmp(word, "init") && count == 2)
@@ -148,11 +176,25 @@ static int read_file(struct tsotest_record *r, const char *name)
 int main(int argc, char **argv)
 {
     static struct tsotest_record r;
-    bool prints_values = argc > 1 && !strcmp(argv[1], "--values"), prints_labels = argc > 1 && !strcmp(argv[1], "--labels");
-    int first = prints_values || prints_labels ? 2 : 1;
-    const char *input = "-", *const *names = argc > first ? (const char *const *)argv + first : &input;
-    int count = argc > first ? argc - first : 1;
-    tsotest_record_begin(&r, 0);
+    bool prints_values = false, prints_labels = false;
+    const char *input = "-", *const *names = &input;
+    int first = 1, count;
+    for (; first < argc && !strncmp(argv[first], "--", 2); first++)
+        if (!strcmp(argv[first], "--values"))
+            prints_values = true;
+        else if (!strcmp(argv[first], "--labels"))
+            prints_labels = true;
+        else if (strcmp(argv[first], "--events") || first + 1 == argc) {
+            fprintf(stderr, "not an option: %s\n", argv[first]);
+            return 1;
+        } else if (make_room(argv[++first])) {
+            fprintf(stderr, "no room for %s events\n", argv[first]);
+            return 1;
+        }
+    if (argc > first)
+        names = (const char *const *)argv + first;
+    count = argc > first ? argc - first : 1;
+    begin(&r, 0);
     for (int i = 0; i < count; i++)
         if (read_file(&r, names[i]))
             return 1;
@@ -160,5 +202,6 @@ int main(int argc, char **argv)
         fprintf(stderr, "%s\n", r.error ? r.message : "cannot write");
         return 1;
     }
+    free(room.memory);
     return 0;
 }
