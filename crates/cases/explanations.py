@@ -99,13 +99,13 @@ class Reader:
         """The word of diy for a step between two loads or stores; without a reason a fence is between them."""
         before, after = self.events[first], self.events[second]
         if reason in ("Po", None):
-            letters = "".join("W" if it["k"] == "S" else "R" for it in (before, after))
+            letters = "".join({"S": "W", "R": "RA"}.get(it["k"], "R") for it in (before, after))
             return ("Po" if reason else "MFence") + ("s" if before["a"] == after["a"] else "d") + letters
         return {"Wo": "Co"}.get(reason, reason) + ("i" if before["core"] == after["core"] else "e")
 
     def diy(self, pairs):
         """The line that says a cycle of these pairs in the words of diy, if there is one."""
-        if any(self.events[it]["k"] in "RC" for it, _, _ in pairs):
+        if any(self.events[it]["k"] == "C" for it, _, _ in pairs):
             return []
         at = [i for i, (it, _, _) in enumerate(pairs) if self.events[it]["k"] != "F"]
         words = []

@@ -9,3 +9,4 @@ pub mod Circles
 pub mod Part
 pub mod Completion
 pub mod Histogram
+pub mod Cycles

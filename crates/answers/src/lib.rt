@@ -6,6 +6,7 @@ mod circles;
 mod completion_answers;
 mod histogram_answers;
 mod long_answers;
+mod made_answers;
 mod outcome_answers;
 mod parts;
 mod reduced;
@@ -16,6 +17,7 @@ mod shown;
 pub use campaigns::{campaign_answer, survey_answer, trials_answer, values_survey_answer};
 pub use completion_answers::completion_answer;
 pub use histogram_answers::{live_histogram_answer, seeded_histogram_answer};
+pub use made_answers::{cycles_answer, made_answer};
 pub use outcome_answers::{
     Condition, condition_answer, log_answer, met_answer, outcomes_answer, unfinished_answer,
 };

@@ -9,7 +9,8 @@ use Rattle.clap.specs.declared.builder.ArgAction.TheVariants.{Append, Set, SetTr
 use Rattle.clap.specs.declared.builder.value_parser.ValueParser.TheVariants.{Unsigned}
 use Rattle.command_line.specs.declared.table.CommandRow.{CommandRow}
 use Rattle.command_line.specs.declared.table.Takes.{Takes}
-use Rattle.command_line.specs.declared.table.Takes.TheVariants.{Place, Places, Text as Word, Shown, Number, Size, Nothing}
+use Rattle.command_line.specs.declared.table.Takes.TheVariants.{Place, MaybePlaces, Places, Text as Word, Shown, Number, Most}
+use Rattle.command_line.specs.declared.table.Takes.TheVariants.{Size, Nothing}
 
 -- the commands, each with the names of its arguments and options, and what they take
 abbrev pub commands : List (Text × List (Text × Takes))
@@ -58,6 +59,10 @@ commands = (
           ∷ (codes "exists", Word) ∷ (codes "never", Word) ∷ (codes "items", Shown) ∷ (codes "words", Nothing) ∷ [],
     )
     ∷ (codes "complete", (codes "FILE", Place) ∷ (codes "states", Number) ∷ (codes "words", Nothing) ∷ [])
+    ∷ (
+      codes "make",
+      (codes "WORD", MaybePlaces) ∷ (codes "cycles", Most) ∷ (codes "forbidden", Nothing) ∷ (codes "words", Nothing) ∷ [],
+    )
     ∷ []
 
 -- a row of the code's table
@@ -67,11 +72,17 @@ row_of c = (c.name.now, map (λ a. (a.name.now, a.takes)) c.arguments.now)
 -- what clap reads of an argument or an option with this name
 abbrev pub rule_by : Takes → Text → Rule
 rule_by Place id = record (new_rule id) { required = true; action = Some Set }
+rule_by MaybePlaces id = record (new_rule id) { action = Some Append }
 rule_by Places id = record (new_rule id) { required = true; action = Some Append }
 rule_by Word id = record (new_rule id) { long = Some id; value_names = 1; action = Some Set }
 rule_by Shown id = record (new_rule id) { long = Some (codes "show"); value_names = 1; action = Some Set }
 rule_by Number id = record (new_rule id) {
   long = Some id;
+  value_names = 1;
+  parser = Some (Unsigned 0 18446744073709551615);
+}
+rule_by Most id = record (new_rule id) {
+  long = Some (codes "all");
   value_names = 1;
   parser = Some (Unsigned 0 18446744073709551615);
 }

@@ -1,6 +1,6 @@
 -- What the entries of a command ask for: each option is its entry, or else its default.
 use Rattle.std.specs.Prelude.{◌≡◌, ◌≢◌, ◌&&◌, ◌||◌, ℕ, Bool, List, Option, Some, None, IfSome, codes}
-use Rattle.std.specs.Prelude.{◌+◌, ◌==◌, [], ◌∷◌, ⊤, false, find, count_by, if◌then◌else◌, is_some, nat_lt, not, option_map, true}
+use Rattle.std.specs.Prelude.{◌+◌, ◌==◌, ◌++◌, [], ◌∷◌, ⊤, false, find, count_by, if◌then◌else◌, is_some, nat_lt, not, option_map, true}
 use Rattle.std.specs.Prelude.{unwrap_or}
 use Rattle.std.specs.Option.{option_map_or, option_or}
 use Rattle.std.specs.List.{list_any}
@@ -17,6 +17,7 @@ use Rattle.command_line.specs.declared.options.Misfit.TheVariants.{EachWithShow,
 use Rattle.command_line.specs.declared.options.Misfit.TheVariants.{StatesWithoutComplete}
 use Rattle.command_line.specs.declared.options.Misfit.TheVariants.{RunsWithSteps, TwoQuestions, UnseenWithoutObserved}
 use Rattle.command_line.specs.declared.options.Misfit.TheVariants.{ProgramWithLong, WorkersWithLong}
+use Rattle.command_line.specs.declared.options.Misfit.TheVariants.{CycleWithAll, ForbiddenWithoutAll, NoCycle}
 use Rattle.command_line.specs.declared.options.TheConstants.{DEFAULT_FAULT}
 use Rattle.command_line.specs.declared.table.Takes.{Takes}
 use Rattle.command_line.specs.declared.table.Takes.TheVariants as takes
@@ -126,19 +127,44 @@ survey_misfit rows =
 abbrev pub runs_misfit : List Row → Option Misfit
 runs_misfit rows = if is_some (runs_of rows) && not (given (codes "steps") rows == 0) then Some RunsWithSteps else None
 
+-- a text with a space at its end, unless it is empty
+abbrev pub with_space : Text → Text
+with_space [] = []
+with_space (b ∷ text) = (b ∷ text) ++ 32 ∷ []
+
+-- a text, and texts after it, with spaces between them
+abbrev pub joined_from : Text → List Text → Text
+joined_from text [] = text
+joined_from text (next ∷ texts) = joined_from (with_space text ++ next) texts
+
+-- --all of make
+abbrev pub cycles_of : List Row → Option ℕ
+cycles_of rows = option_map number_written (one_of (codes "cycles") rows)
+
+-- the words are those of make: no other command has an entry for this flag
+abbrev pub makes : List Row → Bool
+makes rows = is_some (first_of (codes "forbidden") rows)
+
+-- the options of make that don't go together: a cycle with --all, neither, or --forbidden without --all
+abbrev pub make_misfit : List Row → Option Misfit
+make_misfit rows =
+    if is_some (cycles_of rows) && not (given (codes "WORD") rows == 0) then Some CycleWithAll
+    else (if makes rows && not (is_some (cycles_of rows)) && (given (codes "WORD") rows == 0) then Some NoCycle
+    else (if is_given (codes "forbidden") rows && not (is_some (cycles_of rows)) then Some ForbiddenWithoutAll else None))
+
 -- what doesn't go together with --long: --workers, or --program
 abbrev pub long_misfit : List Row → Option Misfit
 long_misfit rows =
     if is_some (one_of (codes "workers") rows) && is_given (codes "long") rows then Some WorkersWithLong
     else (if is_given (codes "long") rows && not (given (codes "program") rows == 0) then Some ProgramWithLong else None)
 
--- the options that don't go together: --each with --show, or --reduce without it, or those of survey, of outcomes, of runs
--- or with --long
+-- the options that don't go together: --each with --show, or --reduce without it, or those of survey, of outcomes, of runs,
+-- of make or with --long
 abbrev pub misfit_of : List Row → Option Misfit
 misfit_of rows = if is_some (show_of rows) && is_given (codes "each") rows then Some EachWithShow
     else (if not (is_some (show_of rows)) && is_given (codes "reduce") rows then Some ReduceWithoutShow
     else option_or (survey_misfit rows) (option_or (question_misfit rows)
-    (option_or (runs_misfit rows) (long_misfit rows))))
+    (option_or (runs_misfit rows) (option_or (make_misfit rows) (long_misfit rows)))))
 
 -- the entry, where there is one, is a number of 64 bits
 abbrev pub HasNumber : Text → List Row → Type 0
@@ -154,6 +180,7 @@ HasFlag id rows = unwrap_or (one_of id rows) (codes "false") ≡ bool_text (is_g
 
 abbrev pub is_number : Takes → Bool
 is_number takes.Number = true
+is_number takes.Most = true
 is_number takes.Size = true
 is_number _ = false
 

@@ -8,7 +8,7 @@ use Rattle.std.specs.Str.Parse.{digits_value}
 use Rattle.clap.specs.Words.{Text}
 use Rattle.clap.specs.declared.builder.arg.Arg.{Arg}
 use Rattle.common.specs.declared.limits.TheConstants.{MAX_ADDRESSES, MAX_CORES, MAX_EVENTS, MAX_STEPS}
-use Rattle.command_line.specs.declared.options.TheConstants.{ATTEMPTS, BUFFER, DEFAULT_FAULT, DEFAULT_SEED}
+use Rattle.command_line.specs.declared.options.TheConstants.{ATTEMPTS, BUFFER, CYCLES, DEFAULT_FAULT, DEFAULT_SEED}
 use Rattle.command_line.specs.declared.options.TheConstants.{LIMIT, STATES, TRIALS, WORKERS}
 use Rattle.command_line.specs.declared.table.CommandRow.{CommandRow}
 use Rattle.command_line.specs.Entries.{fault_name, faults}
@@ -44,6 +44,7 @@ said = (codes "steps", codes "at most ", MAX_STEPS) ∷ (codes "seed", codes "[d
     ∷ (codes "workers", codes "from 1 to ", WORKERS.most)
     ∷ (codes "workers", codes "[default: ", WORKERS.default)
     ∷ (codes "states", codes "from 1 to ", STATES.most)
+    ∷ (codes "cycles", codes "from 1 to ", CYCLES.most)
     ∷ (codes "states", codes "[default: ", STATES.default) ∷ []
 
 -- texts with commas between them

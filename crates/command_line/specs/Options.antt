@@ -1,6 +1,6 @@
 -- The options that the words ask for.
 use Rattle.std.specs.Prelude.{◌≡◌, ◌≢◌, ◌≤◌, ◌<◌, ℕ, Bool, List, Option, Some, None, IfSome, Ok, false, ⊤, codes, true}
-use Rattle.std.specs.Prelude.{IsSomeAnd, if◌then◌else◌, is_some, length, map, option_map, string_bytes}
+use Rattle.std.specs.Prelude.{IsSomeAnd, if◌then◌else◌, is_some, length, map, option_map, string_bytes, []}
 use Rattle.recording.specs.declared.size.RecordingSize.{RecordingSize}
 use Rattle.recording.specs.declared.size.RecordingSize.TheVariants.{Long, Short}
 use Rattle.clap.specs.Takes.{is_given}
@@ -10,9 +10,11 @@ use Rattle.clap.specs.declared.error.kind.ErrorKind.TheVariants as kinds
 use Rattle.command_line.specs.declared.options.Limits.{Limits}
 use Rattle.command_line.specs.declared.options.Options.{Options}
 use Rattle.command_line.specs.declared.options.Options.TheVariants.{Run, Judge, JudgeLong, Trials, Live, Replay, Explain, Draw, Reduce}
-use Rattle.command_line.specs.declared.options.Options.TheVariants.{Verify, Survey, Merge, Outcomes, Complete}
+use Rattle.command_line.specs.declared.options.Options.TheVariants.{Verify, Survey, Merge, Outcomes, Complete, Make}
 use Rattle.command_line.specs.declared.options.OutcomesOptions.{OutcomesOptions}
 use Rattle.command_line.specs.declared.options.CompleteOptions.{CompleteOptions}
+use Rattle.command_line.specs.declared.options.MakeOptions.{MakeOptions}
+use Rattle.command_line.specs.declared.options.MakeOptions.TheVariants.{Cycle, All as Cycles}
 use Rattle.command_line.specs.declared.options.Question.{Question}
 use Rattle.command_line.specs.declared.options.Question.TheVariants.{All, Observed, Exists, Never, Show}
 use Rattle.command_line.specs.declared.options.VerifyOptions.{VerifyOptions}
@@ -30,11 +32,11 @@ use Rattle.command_line.specs.declared.options.OptionStop.TheVariants.{Clap, Ref
 use Rattle.command_line.specs.declared.options.OptionStop.TheVariants.{StandardInputTwice, Misfit, Refused}
 use Rattle.command_line.specs.declared.options.OptionStop.TheVariants.{OutOfMemory}
 use Rattle.command_line.specs.declared.options.TheConstants.{ATTEMPTS, BUFFER, DEFAULT_SEED, LIMIT, TRIALS}
-use Rattle.command_line.specs.declared.options.TheConstants.{RUNS, STATES, WORKERS}
+use Rattle.command_line.specs.declared.options.TheConstants.{CYCLES, RUNS, STATES, WORKERS}
 use Rattle.command_line.specs.declared.values.Values.{Values}
 use Rattle.command_line.specs.Commands.{HaveNoMistake, command_of, program_app}
 use Rattle.command_line.specs.Entries.{HasEntries, machine_fault_of, misfit_of, names_standard_input_twice}
-use Rattle.command_line.specs.Entries.{number_of, number_or, runs_of, show_of}
+use Rattle.command_line.specs.Entries.{cycles_of, joined_from, names_given, number_of, number_or, number_written, show_of}
 use Rattle.command_line.specs.Meanings.{asks_of_refusals, meaning_asked}
 use Rattle.clap.specs.Words.{all_of, one_of, subcommand_rows_of}
 use Rattle.clap.specs.declared.parser.matches.ArgMatches.{ArgMatches}
@@ -54,9 +56,14 @@ IsNumber id limits rows n = IsInRange limits.most (number_of id limits rows) n
 abbrev pub seed_of : List Row → ℕ
 seed_of rows = number_or DEFAULT_SEED (one_of (codes "seed") rows)
 
--- how many runs are asked for, within the limits, if this is asked for
+-- the number of an option, within its limits, if it is asked for
+abbrev pub MayBeNumber : Text → Limits → Option ℕ → List Row → Type 0
+MayBeNumber id limits asked rows =
+    (asked ≡ option_map number_written (one_of id rows)) × IfSome asked (IsNumber id limits rows)
+
+-- how many runs are asked for, if this is asked for
 abbrev pub AreRuns : Option ℕ → List Row → Type 0
-AreRuns runs rows = (runs ≡ runs_of rows) × IfSome runs (λ n. IsInRange RUNS.most (number_of (codes "runs") RUNS rows) n)
+AreRuns runs rows = MayBeNumber (codes "runs") RUNS runs rows
 
 -- each number, the fault and each flag is its entry, or else its default; none is refused
 pub record AreValuesAsked (v : Values) (rows : List Row) : Type 0 where
@@ -79,6 +86,8 @@ pub record AreValuesAsked (v : Values) (rows : List Row) : Type 0 where
   pub unseen : v.unseen ≡ is_given (codes "unseen") rows
   pub long : v.long ≡ is_given (codes "long") rows
   pub runs : AreRuns v.runs rows
+  pub cycles : MayBeNumber (codes "cycles") CYCLES v.cycles rows
+  pub forbidden : v.forbidden ≡ is_given (codes "forbidden") rows
 
 -- each option of run is its entry, or else its default
 pub record AreRunOptions (o : RunOptions) (rows : List Row) : Type 0 where
@@ -185,6 +194,13 @@ pub record AreCompleteOptions (o : CompleteOptions) (rows : List Row) : Type 0 w
   pub file : first_of (codes "FILE") rows ≡ Some (string_bytes o.file)
   pub states : IsNumber (codes "states") STATES rows o.states
 
+-- the words of a cycle are those of the entry, with spaces between them; or each option of a list is its entry
+abbrev pub AreMakeOptions : MakeOptions → List Row → Type 0
+AreMakeOptions (Cycle words) rows = (cycles_of rows ≡ None)
+    × (string_bytes words ≡ joined_from [] (names_given (codes "WORD") rows))
+AreMakeOptions (Cycles events forbidden) rows = (cycles_of rows ≡ Some events)
+    × IsNumber (codes "cycles") CYCLES rows events × (forbidden ≡ is_given (codes "forbidden") rows)
+
 -- the options are those of the command with this name
 abbrev pub AreOptionsOf : Options → Text → List Row → Type 0
 AreOptionsOf (Run o) name rows = (name ≡ codes "run") × AreRunOptions o rows
@@ -202,6 +218,7 @@ AreOptionsOf (Survey o) name rows = (name ≡ codes "survey") × AreSurveyOption
 AreOptionsOf (Merge o) name rows = (name ≡ codes "merge") × AreMergeOptions o rows
 AreOptionsOf (Outcomes o) name rows = (name ≡ codes "outcomes") × AreOutcomesOptions o rows
 AreOptionsOf (Complete o) name rows = (name ≡ codes "complete") × AreCompleteOptions o rows
+AreOptionsOf (Make o) name rows = (name ≡ codes "make") × AreMakeOptions o rows
 
 -- the options are those of the command that was read, whose inputs are not both standard input; they go together, and
 -- no entry is refused

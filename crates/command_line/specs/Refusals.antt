@@ -1,4 +1,4 @@
--- The first refusal of entries, K1 to K10, K12 and K13.
+-- The first refusal of entries, K1 to K10 and K12 to K14.
 use Rattle.std.specs.Prelude.{ℕ, Bool, true, List, Option, Some, None, Result, Ok, Err, codes, if◌then◌else◌, is_some}
 use Rattle.std.specs.Prelude.{nat_lt, option_and_then, option_map}
 use Rattle.std.specs.Option.{option_or}
@@ -8,7 +8,7 @@ use Rattle.program.specs.Shapes.{Sizes, is_outside, shape_of}
 use Rattle.command_line.specs.declared.options.Limits.{Limits}
 use Rattle.command_line.specs.declared.options.OptionRefusal.{OptionRefusal}
 use Rattle.command_line.specs.declared.options.OptionRefusal.TheVariants as refused
-use Rattle.command_line.specs.declared.options.TheConstants.{ATTEMPTS, BUFFER, LIMIT, RUNS, STATES, TRIALS, WORKERS}
+use Rattle.command_line.specs.declared.options.TheConstants.{ATTEMPTS, BUFFER, CYCLES, LIMIT, RUNS, STATES, TRIALS, WORKERS}
 use Rattle.command_line.specs.Entries.{machine_fault_of, number_of, number_written, show_of, size_of}
 
 -- the refusal of a number that is not within its limits
@@ -29,7 +29,7 @@ shape_asked rows = option_map (λ cores. shape_of (number_written cores) (size_o
 abbrev pub sizes_refusal : List Row → Option OptionRefusal
 sizes_refusal rows = option_and_then refusal_in (shape_asked rows)
 
--- K5 to K8, K12 and K13, of the option with this name
+-- K5 to K8 and K12 to K14, of the option with this name
 abbrev pub number_refusal : Text → Limits → List Row → Option OptionRefusal
 number_refusal id limits rows = outside limits (number_of id limits rows)
 
@@ -47,7 +47,7 @@ abbrev pub show_refusal : List Row → Option OptionRefusal
 show_refusal rows =
     refusal_of_show (is_some (shape_asked rows)) (show_of rows) (number_of (codes "trials") TRIALS rows)
 
--- K1 to K10, K12 and K13; what has no entry is not refused
+-- K1 to K10 and K12 to K14; what has no entry is not refused
 abbrev pub refusal_of : List Row → Option OptionRefusal
 refusal_of rows = option_or (sizes_refusal rows)
     (option_or (number_refusal (codes "trials") TRIALS rows)
@@ -57,4 +57,5 @@ refusal_of rows = option_or (sizes_refusal rows)
     (option_or (number_refusal (codes "workers") WORKERS rows)
     (option_or (fault_refusal rows)
     (option_or (show_refusal rows)
-    (option_or (number_refusal (codes "states") STATES rows) (number_refusal (codes "runs") RUNS rows)))))))))
+    (option_or (number_refusal (codes "states") STATES rows)
+    (option_or (number_refusal (codes "runs") RUNS rows) (number_refusal (codes "cycles") CYCLES rows))))))))))

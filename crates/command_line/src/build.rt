@@ -28,6 +28,7 @@ fn arg<'a>(alloc: Global, row: &ArgumentRow) -> Arg<'a>
     let arg = Arg::new(alloc, row.name).help(row.help);
     match row.takes {
         Takes::Place => arg.required(true).action(ArgAction::Set),
+        Takes::MaybePlaces => arg.action(ArgAction::Append),
         Takes::Places => arg.required(true).action(ArgAction::Append),
         Takes::Text => arg
             .long(row.name)
@@ -39,6 +40,10 @@ fn arg<'a>(alloc: Global, row: &ArgumentRow) -> Arg<'a>
             .action(ArgAction::Set),
         Takes::Number => arg
             .long(row.name)
+            .value_name(row.value)
+            .value_parser(clap::value_parser!(u64)),
+        Takes::Most => arg
+            .long("all")
             .value_name(row.value)
             .value_parser(clap::value_parser!(u64)),
         Takes::Size => arg

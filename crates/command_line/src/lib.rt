@@ -14,6 +14,6 @@ pub mod words;
 pub use meanings::{REFUSAL_MEANINGS, meaning_named};
 pub use options::{
     CompleteOptions, DrawOptions, ExplainOptions, FileOptions, JudgeOptions, LiveOptions,
-    MergeOptions, Misfit, OptionRefusal, OptionStop, Options, OutcomesOptions, Question,
-    RunOptions, SurveyOptions, TrialsOptions, VerifyOptions,
+    MakeOptions, MergeOptions, Misfit, OptionRefusal, OptionStop, Options, OutcomesOptions,
+    Question, RunOptions, SurveyOptions, TrialsOptions, VerifyOptions,
 };

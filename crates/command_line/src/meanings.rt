@@ -52,6 +52,11 @@ Of what was observed, whose lines are counted from 1, and of conditions, whose i
 O1   line N has a word that is no item of the program, or one that stands twice (items are `C:rK=V;` and `[NAME]=V;`, or `NAME=V;`, of reading operations and addresses that the program has)
 O2   item N is none of the program's, or stands twice (items are `C:rK=V` and `[NAME]=V`, or `NAME=V`, with `/\\` or a space between)
 
+Of the words of a cycle, which are counted from 1:
+E1   word N is none, or there is no word (words are Po or MFence, s or d, and two of R, W, RA and WA; Rfe, Fre, Coe, Rfi, Fri and Coi)
+E2   word N shows that these words are no cycle (each starts with the access in which the one before it ends; they come back to the first core and address)
+E3   word N goes beyond 512 events, 16 cores or 16 addresses (a program has no more)
+
 Of options:
 K1   `--cores` is not from 1 to 16 (a program has at most 16 cores)
 K2   `--ops` is not from 1 to 512 (it counts the operations of each core)
@@ -66,6 +71,7 @@ K10  `--show` is not below `--trials` (trials are numbered from 0)
 K11  `--show` is not below the number of recordings (recordings are numbered from 0)
 K12  `--states` is not from 1 to 4294967295 (it counts the states that are looked at)
 K13  `--runs` is not from 1 to 4294967295 (it counts runs, of which each later one has the next seed)
+K14  `--all` is not from 1 to 16 (it counts the events of a cycle, with its fences)
 ";
 
 /// Whether a name has a space.

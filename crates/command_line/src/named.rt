@@ -1,8 +1,8 @@
 //! The options of the command with a name.
-ghost use Rattle.std.specs.Prelude.{◌≡◌, ◌≢◌, IfOk, List, None, Some, codes, map, option_map, string_bytes};
+ghost use Rattle.std.specs.Prelude.{◌≡◌, ◌≢◌, ◌++◌, [], IfOk, List, None, OnOk, Some, codes, map, option_map, string_bytes};
 ghost use Rattle.clap.specs.Words.{Row, first_of, found_of, rows_of};
-ghost use Rattle.command_line.specs.Entries.{HasEntries, HasText};
-ghost use Rattle.command_line.specs.Options.{AreExplainOptions, AreMergeOptions, AreOptionsOf, AreRunOptions};
+ghost use Rattle.command_line.specs.Entries.{HasEntries, HasText, joined_from, names_given, with_space};
+ghost use Rattle.command_line.specs.Options.{AreExplainOptions, AreMakeOptions, AreMergeOptions, AreOptionsOf, AreRunOptions};
 ghost use Rattle.command_line.specs.Options.{AreOutcomesOptions, AreSurveyOptions, AreValuesAsked, IsCompletionAsked};
 ghost use Rattle.command_line.specs.Options.{IsQuestion, size_asked};
 ghost use Rattle.command_line.specs.Refusals.{refusal_of};
@@ -10,8 +10,8 @@ ghost use Rattle.command_line.specs.Refusals.{refusal_of};
 use crate::entries::{maybe_text, maybe_texts};
 use crate::options::{
     CompleteOptions, DrawOptions, ExplainOptions, FileOptions, JudgeOptions, LiveOptions,
-    MergeOptions, Options, OutcomesOptions, Question, RunOptions, SurveyOptions, TrialsOptions,
-    VerifyOptions,
+    MakeOptions, MergeOptions, Options, OutcomesOptions, Question, RunOptions, SurveyOptions,
+    TrialsOptions, VerifyOptions,
 };
 use crate::values::Values;
 use campaign::Campaign;
@@ -210,6 +210,48 @@ fn outcomes_options(
     })
 }
 
+/// Adds a text, after a space unless it is the first.
+fn join(words: &mut String, text: &str) -> Result<(), AllocError>
+    ensures { OnOk result (string_bytes words.new ≡ with_space (string_bytes words.old) ++ text.now) }
+{
+    if !words.is_empty() {
+        words.push_str(" ")?;
+    }
+    words.push_str(text)
+}
+
+/// The texts that an argument gives, with spaces between them.
+fn joined(alloc: Global, matches: &ArgMatches<'_>, id: &str) -> Result<String, AllocError>
+    ensures { IfOk result (λ words. string_bytes words ≡ joined_from [] (names_given id.now (rows_of (found_of matches.now)))) }
+{
+    let mut words = String::new(alloc);
+    let Some(texts) = maybe_texts(matches, id) else {
+        return Ok(words);
+    };
+    for text in texts {
+        join(&mut words, text)?;
+    }
+    Ok(words)
+}
+
+/// The options of `make`.
+fn make_options(
+    alloc: Global,
+    matches: &ArgMatches<'_>,
+    values: &Values,
+) -> Result<MakeOptions, AllocError>
+    requires { AreValuesAsked values.now (rows_of (found_of matches.now)) }
+    ensures { IfOk result (λ o. AreMakeOptions o (rows_of (found_of matches.now))) }
+{
+    if let Some(events) = values.cycles {
+        return Ok(MakeOptions::All {
+            events,
+            forbidden: values.forbidden,
+        });
+    }
+    Ok(MakeOptions::Cycle(joined(alloc, matches, "WORD")?))
+}
+
 /// The options of the command with this name.
 pub fn named_options(
     alloc: Global,
@@ -265,6 +307,7 @@ pub fn named_options(
             file: given(alloc, matches, "FILE")?,
             states: values.states,
         })),
+        "make" => Ok(Options::Make(make_options(alloc, matches, values)?)),
         _ => unreachable!(),
     }
 }

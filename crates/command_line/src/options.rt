@@ -70,6 +70,13 @@ pub const RUNS: Limits = Limits {
     refusal: OptionRefusal::Runs,
 };
 
+/// The most events of the cycles that are listed.
+pub const CYCLES: Limits = Limits {
+    most: 16,
+    default: 1,
+    refusal: OptionRefusal::Cycles,
+};
+
 /// The seed where no option says it.
 pub const DEFAULT_SEED: u64 = 0;
 
@@ -107,6 +114,8 @@ pub enum Options {
     Outcomes(OutcomesOptions),
     /// `complete`.
     Complete(CompleteOptions),
+    /// `make`.
+    Make(MakeOptions),
 }
 
 /// What `run` is asked: the names of the program and of the script, the machine and the steps of a random run, and how
@@ -255,6 +264,20 @@ pub struct CompleteOptions {
     pub states: usize,
 }
 
+/// What `make` is asked.
+#[derive(Debug, Drop)]
+pub enum MakeOptions {
+    /// The program and the recording of these words of a cycle.
+    Cycle(String),
+    /// The critical cycles.
+    All {
+        /// How many events they have at most, 1 to 16.
+        events: usize,
+        /// Whether those alone are listed that TSO forbids.
+        forbidden: bool,
+    },
+}
+
 /// What is asked of the outcomes of a program.
 #[derive(Debug, Drop)]
 pub enum Question {
@@ -292,6 +315,8 @@ pub enum OptionRefusal {
     States,
     /// K13: the number of runs is not from 1 to 2^32 - 1.
     Runs,
+    /// K14: the number of events is not from 1 to 16.
+    Cycles,
 }
 
 /// Options that don't go together.
@@ -315,6 +340,12 @@ pub enum Misfit {
     WorkersWithLong,
     /// A program names the addresses of a recording that is no larger, and `--long` takes larger ones.
     ProgramWithLong,
+    /// `make` makes one cycle, and `--all` lists cycles instead.
+    CycleWithAll,
+    /// `make` asks for a cycle or for `--all`.
+    NoCycle,
+    /// `--forbidden` belongs to `--all`.
+    ForbiddenWithoutAll,
 }
 
 impl Display for Misfit {
@@ -353,6 +384,19 @@ impl Display for Misfit {
             }
             Misfit::WorkersWithLong => {
                 f.write_str("error: the argument '--workers <N>' cannot be used with '--long'")?;
+            }
+            Misfit::CycleWithAll => {
+                f.write_str("error: the argument '[WORD]...' cannot be used with '--all <N>'")?;
+            }
+            Misfit::NoCycle => {
+                f.write_str(
+                    "error: the following required arguments were not provided:\n  <WORD>...",
+                )?;
+            }
+            Misfit::ForbiddenWithoutAll => {
+                f.write_str(
+                    "error: the following required arguments were not provided:\n  --all <N>",
+                )?;
             }
             Misfit::ProgramWithLong => {
                 f.write_str(

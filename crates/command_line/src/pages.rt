@@ -410,6 +410,38 @@ Example:
   tsotest complete values.json | tsotest judge -",
 };
 
+const MAKE: Page = Page {
+    about: "Makes the program of a cycle, and the recording in which it happens; or lists cycles",
+    more: "Makes the program of a cycle, and the recording in which the cycle happens.
+
+A cycle is written in the words of the tool diy, with spaces between them. A word says how an
+access comes before the next, and the last leads back to the first. `Pod` and `Pos` are
+program order, `MFenced` and `MFences` the same with a fence between; `d` says that both have
+different addresses, `s` that they have the same. The letters after it say what they are: R
+for a load, W for a store, and with an A after it an atomic access, which reads and writes.
+`Rfe` leads from a store to a load that reads it, `Fre` from a load to a store of a newer
+value, `Coe` (or `Wse`) from a store to a later one; e says that they are on different cores,
+and `Rfi`, `Fri` and `Coi` that they are on the same.
+
+Printed are the program, an empty line, and the recording with its verdict: a cycle or an
+overlook where TSO forbids it, and an order where it does not. An address has the name x, y,
+z, a, b, and so on, and its stores the values 1, 2, and so on, in memory order.
+
+With `--all N` the critical cycles of at most N events are listed, a line each, each once:
+a core has at most two accesses, of two addresses, and an address has at most three, of
+different cores; and five cycles of one address. A fence counts as an event, and stands only
+between a store and a load: TSO keeps the order of all others.",
+    statuses: "Exit status:
+  0  TSO allows the recording; with `--all`, always
+  1  an error of the command line or memory, as standard error says
+  2  the recording is a violation of TSO
+  3  the words or a number were refused, as the line `refused: ..` says
+
+Examples:
+  tsotest make PodWW Rfe PodRR Fre
+  tsotest make --all 6 --forbidden",
+};
+
 /// The page of the command with this name.
 pub fn page_of(name: &str) -> Page {
     match name {
@@ -426,6 +458,7 @@ pub fn page_of(name: &str) -> Page {
         "merge" => MERGE,
         "outcomes" => OUTCOMES,
         "complete" => COMPLETE,
+        "make" => MAKE,
         _ => PROGRAM,
     }
 }

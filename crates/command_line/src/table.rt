@@ -5,6 +5,8 @@
 pub enum Takes {
     /// A name, which has to be given and stands without `--`.
     Place,
+    /// Texts, which may be left out and stand without `--`.
+    MaybePlaces,
     /// Names, of which one at least has to be given and which stand without `--`.
     Places,
     /// A text, which may be left out.
@@ -13,6 +15,8 @@ pub enum Takes {
     Shown,
     /// A number of 64 bits, which may be left out.
     Number,
+    /// The number of `--all`, which may be left out. Its name is not `all`: of another command that is a flag.
+    Most,
     /// A number of 64 bits that has to be given.
     Size,
     /// No value.
@@ -293,6 +297,27 @@ const NEVER: ArgumentRow = ArgumentRow {
     help: "Says whether no outcome has these items",
 };
 
+const CYCLE: ArgumentRow = ArgumentRow {
+    name: "WORD",
+    takes: Takes::MaybePlaces,
+    value: "",
+    help: "The words of a cycle, such as PodWW Rfe PodRR Fre",
+};
+
+const ALL_CYCLES: ArgumentRow = ArgumentRow {
+    name: "cycles",
+    takes: Takes::Most,
+    value: "N",
+    help: "Lists the critical cycles of at most N events, from 1 to 16, a line each",
+};
+
+const FORBIDDEN: ArgumentRow = ArgumentRow {
+    name: "forbidden",
+    takes: Takes::Nothing,
+    value: "",
+    help: "Lists those alone that TSO forbids, with --all",
+};
+
 const SHOW_ITEMS: ArgumentRow = ArgumentRow {
     name: "items",
     takes: Takes::Shown,
@@ -368,5 +393,9 @@ pub const COMMANDS: &[CommandRow] = &[
     CommandRow {
         name: "complete",
         arguments: &[VALUES, STATES, WORDS],
+    },
+    CommandRow {
+        name: "make",
+        arguments: &[CYCLE, ALL_CYCLES, FORBIDDEN, WORDS],
     },
 ];

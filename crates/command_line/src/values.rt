@@ -1,17 +1,16 @@
-//! The numbers, the fault and the flags that entries ask for, and the first refusal, K1 to K13.
+//! The numbers, the fault and the flags that entries ask for, and the first refusal, K1 to K14.
 ghost use Rattle.std.specs.Prelude.{◌≡◌, ◌<◌, IfOk, IfSome, Ok, Some, codes, option_map, true};
 ghost use Rattle.std.specs.Result.{result_err};
 ghost use Rattle.clap.specs.Words.{found_of, rows_of};
 ghost use Rattle.command_line.specs.Entries.{AreEntries, HasNumber, machine_fault_of, number_of, show_of};
-ghost use Rattle.command_line.specs.declared.options.TheConstants.{RUNS};
-ghost use Rattle.command_line.specs.Options.{AreRuns, AreValuesAsked, IsNumber};
+ghost use Rattle.command_line.specs.Options.{AreValuesAsked, IsNumber, MayBeNumber};
 ghost use Rattle.command_line.specs.Refusals.{fault_refusal, number_refusal, refusal_of, refusal_of_show};
 ghost use Rattle.command_line.specs.Refusals.{shape_asked, sizes_refusal};
 
 use crate::entries::{fault_named, flag, maybe_text, number, number_or};
 use crate::options::{
-    ATTEMPTS, BUFFER, DEFAULT_FAULT, DEFAULT_SEED, LIMIT, Limits, OptionRefusal, RUNS, STATES,
-    TRIALS, WORKERS,
+    ATTEMPTS, BUFFER, CYCLES, DEFAULT_FAULT, DEFAULT_SEED, LIMIT, Limits, OptionRefusal, RUNS,
+    STATES, TRIALS, WORKERS,
 };
 use clap::ArgMatches;
 use machine::Fault;
@@ -38,6 +37,8 @@ pub struct Values {
     pub unseen: bool,
     pub long: bool,
     pub runs: Option<usize>,
+    pub cycles: Option<usize>,
+    pub forbidden: bool,
 }
 
 /// The number of an option, where it is within its limits.
@@ -104,20 +105,24 @@ fn show(
     }
 }
 
-/// How many runs are counted, where this is asked for.
-fn runs(matches: &ArgMatches<'_>) -> Result<Option<usize>, OptionRefusal>
-    requires { HasNumber (codes "runs") (rows_of (found_of matches.now)) }
-    ensures ok { IfOk result (λ runs. AreRuns runs (rows_of (found_of matches.now))) }
-    ensures err { result_err result ≡ number_refusal (codes "runs") RUNS (rows_of (found_of matches.now)) }
+/// The number of an option, where there is an entry, and it is within its limits.
+fn maybe_limited(
+    matches: &ArgMatches<'_>,
+    id: &str,
+    limits: Limits,
+) -> Result<Option<usize>, OptionRefusal>
+    requires { HasNumber id.now (rows_of (found_of matches.now)) }
+    ensures ok { IfOk result (λ n. MayBeNumber id.now limits n (rows_of (found_of matches.now))) }
+    ensures err { result_err result ≡ number_refusal id.now limits (rows_of (found_of matches.now)) }
 {
-    let asked = limited(matches, "runs", RUNS)?;
-    match number(matches, "runs") {
+    let asked = limited(matches, id, limits)?;
+    match number(matches, id) {
         Some(_) => Ok(Some(asked)),
         None => Ok(None),
     }
 }
 
-/// What the entries ask for, or the first refusal, K1 to K13.
+/// What the entries ask for, or the first refusal, K1 to K14.
 pub fn read_values(matches: &ArgMatches<'_>) -> Result<Values, OptionRefusal>
     requires { AreEntries (rows_of (found_of matches.now)) }
     ensures ok { IfOk result (λ n. AreValuesAsked n (rows_of (found_of matches.now))) }
@@ -132,7 +137,8 @@ pub fn read_values(matches: &ArgMatches<'_>) -> Result<Values, OptionRefusal>
     let fault = fault(matches)?;
     let show = show(matches, shape.is_some(), trials)?;
     let states = limited(matches, "states", STATES)?;
-    let runs = runs(matches)?;
+    let runs = maybe_limited(matches, "runs", RUNS)?;
+    let cycles = maybe_limited(matches, "cycles", CYCLES)?;
     Ok(Values {
         shape,
         seed: number_or(matches, "seed", DEFAULT_SEED),
@@ -152,5 +158,7 @@ pub fn read_values(matches: &ArgMatches<'_>) -> Result<Values, OptionRefusal>
         unseen: flag(matches, "unseen"),
         long: flag(matches, "long"),
         runs,
+        cycles,
+        forbidden: flag(matches, "forbidden"),
     })
 }

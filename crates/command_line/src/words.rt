@@ -1,6 +1,6 @@
 //! The words of a command line.
 ghost use Rattle.std.specs.Prelude.{◌≡◌, Err, IfErr, IfOk, IsSomeAnd, List, Some, ℕ, false, map, option_map, string_bytes, true};
-ghost use Rattle.clap.specs.Words.{app_of, subcommand_rows_of};
+ghost use Rattle.clap.specs.Words.{app_of, found_of, rows_of, subcommand_rows_of};
 ghost use Rattle.command_line.specs.Commands.{HaveNoMistake, command_of, program_app};
 ghost use Rattle.command_line.specs.Entries.{HasEntries};
 ghost use Rattle.command_line.specs.Meanings.{IsLineOf, asks_of_refusals, meaning_asked, name_asked};
@@ -24,15 +24,12 @@ fn read<'a>(command: Command<'a>, words: &'a [String]) -> Result<ArgMatches<'a>,
     Ok(command.try_get_matches_from(words)?)
 }
 
-/// The options of the command that was read.
-fn command_options(alloc: Global, matches: &ArgMatches<'_>) -> Result<Options, OptionStop>
-    requires { IsSomeAnd (subcommand_rows_of matches.now) HasEntries }
-    ensures ok { IfOk result (λ o. AreOptions o (subcommand_rows_of matches.now)) }
-    ensures err { IfErr result (λ stop. IsMatchesStop stop (subcommand_rows_of matches.now)) }
+/// The options of the command with this name and these entries.
+fn entry_options(alloc: Global, name: &str, entries: &ArgMatches<'_>) -> Result<Options, OptionStop>
+    requires { HasEntries (name.now, rows_of (found_of entries.now)) }
+    ensures ok { IfOk result (λ o. AreOptions o (Some (name.now, rows_of (found_of entries.now)))) }
+    ensures err { IfErr result (λ stop. IsMatchesStop stop (Some (name.now, rows_of (found_of entries.now)))) }
 {
-    let Some((name, entries)) = matches.subcommand() else {
-        unreachable!()
-    };
     if names_standard_input_twice(entries) {
         return Err(OptionStop::StandardInputTwice);
     }
@@ -41,6 +38,18 @@ fn command_options(alloc: Global, matches: &ArgMatches<'_>) -> Result<Options, O
     }
     let values = read_values(entries)?;
     Ok(named_options(alloc, name, entries, &values)?)
+}
+
+/// The options of the command that was read.
+fn command_options(alloc: Global, matches: &ArgMatches<'_>) -> Result<Options, OptionStop>
+    requires { IsSomeAnd (subcommand_rows_of matches.now) HasEntries }
+    ensures ok { IfOk result (λ o. AreOptions o (subcommand_rows_of matches.now)) }
+    ensures err { IfErr result (λ stop. IsMatchesStop stop (subcommand_rows_of matches.now)) }
+{
+    match matches.subcommand() {
+        Some((name, entries)) => entry_options(alloc, name, entries),
+        None => unreachable!(),
+    }
 }
 
 /// Whether the words ask what refusals mean.

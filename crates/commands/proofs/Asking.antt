@@ -4,9 +4,11 @@ use Rattle.std.proofs.Common.{arith, IfErr, IsErrAnd, append_assoc, drop, get_or
 use Rattle.std.proofs.lemmas.List.{append-nil, get_or-map, take-append-drop, take_more}
 use Rattle.devices.specs.declared.host.Tally.{Tally}
 use Rattle.devices.specs.Host.{Notes, HostLog}
+use Rattle.inputs.specs.declared.command_error.CommandError.{CommandError}
 use Rattle.inputs.specs.declared.command_error.CommandError.TheVariants.{OutOfMemory}
 use Rattle.inputs.specs.declared.command_stop.CommandStop.{CommandStop}
-use Rattle.inputs.specs.declared.command_stop.CommandStop.TheVariants.{Failed}
+use Rattle.inputs.specs.declared.command_stop.CommandStop.TheVariants.{Failed, Refused}
+use Rattle.inputs.specs.declared.command_stop.PrintedRefusal.{PrintedRefusal}
 use Rattle.inputs.specs.Inputs.{AreRead, AreStopped, IsStoppedBy, ReadsNamed}
 
 -- nothing was read
@@ -55,6 +57,21 @@ pub none_read : {X : Type 0} (r : Result X CommandStop) (a : HostLog)
     → IfErr r (λ stop. stop ≡ Failed OutOfMemory) → ReadsNamed [] a a r
 none_read {X} (Ok x) a wanting = read_none a
 none_read {X} (Err stop) a wanting = memory_stopped {X = X} (Err stop) [] a a (read_none a) wanting
+
+-- a refusal for which nothing was to be read
+pub refused_unread : (refusal : PrintedRefusal) (a : HostLog) → AreStopped [] (Refused refusal) a a
+refused_unread refusal a = record {
+  front = [];
+  rest = [];
+  parts = refl;
+  asked = (read_none a).0;
+  stopped = refl;
+}
+
+-- an error for which nothing was to be read: there is no memory
+pub failed_unread : (error : CommandError) (a : HostLog) → error ≡ OutOfMemory → AreStopped [] (Failed error) a a
+failed_unread error a is = subst (λ (e : CommandError). AreStopped [] (Failed e) a a) (sym is)
+    (stopped_before [] [] a a (read_none a))
 
 -- what stops after some were read, before others
 pub stopped_after : (xs ys zs : List (List ℕ)) (stop : CommandStop) (a b c : HostLog)

@@ -3,7 +3,7 @@ use Rattle.std.specs.Prelude.{◌≡◌, ◌++◌, ◌∷◌, [], ℕ, List, Opt
 use Rattle.command_line.specs.declared.options.ExplainOptions.{ExplainOptions}
 use Rattle.command_line.specs.declared.options.Options.{Options}
 use Rattle.command_line.specs.declared.options.Options.TheVariants.{Run, Judge, JudgeLong, Trials, Live, Replay, Explain, Draw}
-use Rattle.command_line.specs.declared.options.Options.TheVariants.{Reduce, Verify, Survey, Merge, Outcomes, Complete}
+use Rattle.command_line.specs.declared.options.Options.TheVariants.{Reduce, Verify, Survey, Merge, Outcomes, Complete, Make}
 use Rattle.verdicts.specs.declared.printed.Answer.{Answer}
 use Rattle.answers.specs.declared.rendering.Rendering.TheVariants.{Words, Picture, Reduction}
 use Rattle.inputs.specs.declared.command_stop.CommandStop.{CommandStop}
@@ -14,6 +14,7 @@ use Rattle.inputs.specs.Named.{IsValuesStop}
 use Rattle.inputs.specs.Refusal.{IsFailure}
 use Rattle.commands.specs.Complete.{IsCompletedInput}
 use Rattle.commands.specs.Judge.{IsFileAnswer, IsJudgeError, IsLongFileAnswer, IsVerified, IsVerifyStop}
+use Rattle.commands.specs.Make.{IsMakeAnswer, IsMakeStop}
 use Rattle.commands.specs.Merge.{IsMerged, IsMergeStop}
 use Rattle.commands.specs.Outcomes.{IsOutcomes, IsOutcomesStop, question_names}
 use Rattle.commands.specs.Render.{IsRendered, IsRenderingStop}
@@ -52,6 +53,7 @@ input_names (Survey o) = string_bytes o.file ∷ []
 input_names (Merge o) = map string_bytes o.files.items
 input_names (Outcomes o) = string_bytes o.program ∷ question_names o.question
 input_names (Complete o) = string_bytes o.file ∷ []
+input_names (Make o) = []
 
 -- what a command answers to its options and inputs
 abbrev pub IsAnswerTo : (List ℕ → Option (List ℕ)) → Options → Answer → Type 0
@@ -69,6 +71,7 @@ IsAnswerTo inputs (Survey o) answer = IsSurveyOf inputs o o.show answer
 IsAnswerTo inputs (Merge o) answer = IsMerged inputs o answer
 IsAnswerTo inputs (Outcomes o) answer = IsOutcomes inputs o answer
 IsAnswerTo inputs (Complete o) answer = IsCompletedInput inputs o answer
+IsAnswerTo inputs (Make o) answer = IsMakeAnswer o answer
 
 -- why a command with these options and inputs stops
 abbrev pub IsCommandStop : (List ℕ → Option (List ℕ)) → Options → CommandStop → Type 0
@@ -87,3 +90,4 @@ IsCommandStop inputs (Survey o) stop = IsSurveyStop inputs o o.show stop
 IsCommandStop inputs (Merge o) stop = IsMergeStop inputs o stop
 IsCommandStop inputs (Outcomes o) stop = IsOutcomesStop inputs o stop
 IsCommandStop inputs (Complete o) stop = IsValuesStop inputs (string_bytes o.file) stop
+IsCommandStop inputs (Make o) stop = IsMakeStop o stop

@@ -7,4 +7,5 @@ pub mod Survey
 pub mod Merge
 pub mod Outcomes
 pub mod Complete
+pub mod Make
 pub mod Command

@@ -14,6 +14,7 @@ use crate::complete_command::complete_command;
 use crate::judge_command::judge_command;
 use crate::live_command::live_command;
 use crate::long_command::long_command;
+use crate::make_command::make_command;
 use crate::merge_command::merge_command;
 use crate::outcomes_command::outcomes_command;
 use crate::output::put;
@@ -108,6 +109,7 @@ fn answer_to<R: Threads + Wait + Sync, H: Host>(
         Options::Merge(merge) => merge_command(alloc, merge, host),
         Options::Outcomes(outcomes) => outcomes_command(alloc, outcomes, host),
         Options::Complete(complete) => complete_command(alloc, complete, host),
+        Options::Make(make) => make_command(alloc, make),
     }
 }
 

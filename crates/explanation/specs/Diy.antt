@@ -1,26 +1,35 @@
--- A cycle of loads, stores and fences in the words of the tool diy, and the classic test that has it.
-use Rattle.std.specs.Prelude.{◌≡◌, ◌++◌, ◌∷◌, ◌==◌, ◌+◌, ◌&&◌, [], ℕ, zero, suc, Bool, true, false, not, List}
+-- A cycle in the words of the tool diy, and the classic test that has it.
+use Rattle.std.specs.Prelude.{◌≡◌, ◌++◌, ◌∷◌, ◌==◌, ◌+◌, ◌||◌, [], ℕ, zero, suc, Bool, true, false, not, List}
 use Rattle.std.specs.Prelude.{Option, Some, None, codes, filter, find, take, drop, length, option_map}
 use Rattle.std.specs.Prelude.{if◌then◌else◌, slice_index}
 use Rattle.std.specs.List.{flat_map, list_all}
 use Rattle.std.specs.Str.{bytes_eq}
 use Rattle.recording.specs.declared.event.Event.{Event}
 use Rattle.recording.specs.declared.event.Event.TheVariants.{L, S, R, C, F}
-use Rattle.recording.specs.Event.{is_plain_store, is_plain_load}
 use Rattle.recording.specs.Execution.{Execution, event_at, core_of}
 use Rattle.relations.specs.declared.reason.Reason.{Reason}
 use Rattle.relations.specs.declared.reason.Reason.TheVariants.{Po, Wo, Rf, Fr}
 use Rattle.relations.specs.Cycle.{next_in_cycle}
 use Rattle.relations.specs.Forced.{IsReason}
+use Rattle.explanation.specs.declared.diy.Access.{Access}
+use Rattle.explanation.specs.declared.diy.Access.TheVariants.{Load, Store, Atomic}
 use Rattle.explanation.specs.declared.diy.Step.{Step}
 
--- whether an event is a load, a store or a fence
-abbrev pub is_plain : Event → Bool
-is_plain (L a r s) = true
-is_plain (S a w) = true
-is_plain (R a r s w) = false
-is_plain (C a r s) = false
-is_plain F = true
+-- whether an event has a word: each but a compare-and-swap that failed
+abbrev pub has_word : Event → Bool
+has_word (L a r s) = true
+has_word (S a w) = true
+has_word (R a r s w) = true
+has_word (C a r s) = false
+has_word F = true
+
+-- what an event is called: a load, a store, or an atomic access
+abbrev pub access_of : Event → Access
+access_of (L a r s) = Load
+access_of (S a w) = Store
+access_of (R a r s w) = Atomic
+access_of (C a r s) = Load
+access_of F = Load
 
 -- whether an event is a fence
 abbrev pub is_fence : Event → Bool
@@ -47,8 +56,8 @@ pub record IsStep (x : Execution) (e f : ℕ) (s : Step) : Type 0 where
   pub reason : IsReason x e f s.reason
   pub address : s.same_address ≡ (accessed (event_at x e) == accessed (event_at x f))
   pub core : s.same_core ≡ (core_of x e == core_of x f)
-  pub from : s.from_store ≡ is_plain_store (event_at x e)
-  pub to : s.to_store ≡ is_plain_store (event_at x f)
+  pub from : s.from ≡ access_of (event_at x e)
+  pub to : s.to ≡ access_of (event_at x f)
 
 -- the steps from the first n accesses, each to the access after it
 abbrev pub AreWordSteps : Execution → List ℕ → ℕ → List Step → Type 0
@@ -56,14 +65,15 @@ AreWordSteps x es zero steps = steps ≡ []
 AreWordSteps x es (suc i) steps = (before : List Step) × (step : Step) × AreWordSteps x es i before
     × IsStep x (slice_index es i) (next_in_cycle es i) step × (steps ≡ before ++ step ∷ [])
 
--- the letter of a store, or of a load
-abbrev pub letter : Bool → List ℕ
-letter true = codes "W"
-letter false = codes "R"
+-- the letters of an access
+abbrev pub letters : Access → List ℕ
+letters Load = codes "R"
+letters Store = codes "W"
+letters Atomic = codes "RA"
 
 -- whether the address is the same or a different one, and the letters of both accesses
 abbrev pub pair_text : Step → List ℕ
-pair_text s = (if s.same_address then codes "s" else codes "d") ++ (letter s.from_store ++ letter s.to_store)
+pair_text s = (if s.same_address then codes "s" else codes "d") ++ (letters s.from ++ letters s.to)
 
 -- whether the step stays inside its core or goes outside
 abbrev pub side_text : Bool → List ℕ
@@ -100,6 +110,7 @@ classics =
     ∷ (codes " Rfe PodRR Fre MFencedWR Fre", codes "RWC+po+mfence")
     ∷ (codes " Rfe PodRW Coe MFencedWR Fre", codes "WRW+WR+po+mfence")
     ∷ (codes " Rfe PodRW Coe PodWW Coe", codes "WRW+2W")
+    ∷ (codes " Rfe PodRR Fre PodWW Coe", codes "WRR+2W")
     ∷ (codes " Rfe PodRR Fre Rfe PodRR Fre", codes "IRIW")
     ∷ (codes " Rfe PodRR Fre Rfe PodRW Coe", codes "IRRWIW")
     ∷ (codes " Rfe PodRW Coe Rfe PodRW Coe", codes "IRWIW")
@@ -153,16 +164,26 @@ IsNamedAfter old words false new = (classic_of words ≡ None) × (new ≡ old)
 abbrev pub diy_line : List Step → List ℕ
 diy_line steps = codes "In diy's words:" ++ (told_from steps 0 (length steps) ++ 10 ∷ [])
 
--- the line of a cycle, if each of its events is a load, a store or a fence
+-- the line of a cycle, if each of its events has a word
 abbrev pub IsDiyLineBy : Bool → Execution → List ℕ → List ℕ → Type 0
 IsDiyLineBy true x c text = (steps : List Step) × AreWordSteps x (accesses x c) (length (accesses x c)) steps
     × (text ≡ diy_line steps)
 IsDiyLineBy false x c text = text ≡ []
 
 abbrev pub IsDiyLine : Execution → List ℕ → List ℕ → Type 0
-IsDiyLine x c text = IsDiyLineBy (list_all (λ e. is_plain (event_at x e)) c) x c text
+IsDiyLine x c text = IsDiyLineBy (list_all (λ e. has_word (event_at x e)) c) x c text
 
--- the line of a load that overlooks a store, if it is no read-modify-write and the store none
+-- the end of the line of a load that overlooks a store, with the name of the classic test where both are plain
+abbrev pub overlook_end : Access → Access → List ℕ
+overlook_end Load Store = codes " (CoWR)" ++ 10 ∷ []
+overlook_end _ _ = 10 ∷ []
+
+-- the words of a load that overlooks a store
+abbrev pub overlook_words : Access → Access → List ℕ
+overlook_words load store =
+    codes "In diy's words: Pos" ++ letters store ++ letters load ++ codes " Fri" ++ overlook_end load store
+
+-- the line of a load that overlooks a store, if both have words
 unfoldable pub diy_overlook_line : Event → Event → List ℕ
-diy_overlook_line load store = if is_plain_load load && is_plain_store store
-    then codes "In diy's words: PosWR Fri (CoWR)\n" else []
+diy_overlook_line load store = if not (has_word load) || not (has_word store) then []
+    else overlook_words (access_of load) (access_of store)

@@ -1,12 +1,12 @@
-//! A cycle of loads, stores and fences in the words of the tool diy.
+//! A cycle in the words of the tool diy.
 
 ghost use Rattle.std.specs.Prelude.{◌≡◌, ◌++◌, ◌∷◌, ◌≤◌, [], ℕ, List, IfOk, OnOk, length, map};
 ghost use Rattle.std.specs.Prelude.{option_map, string_bytes};
 ghost use Rattle.std.specs.List.{flat_map, list_all};
-ghost use Rattle.recording.specs.Event.{is_plain_store};
 ghost use Rattle.recording.specs.Execution.{event_at};
 ghost use Rattle.explanation.specs.Diy.{IsDiyLine, IsStep, AreWordSteps, accesses, accessed, classic_of};
-ghost use Rattle.explanation.specs.Diy.{is_fence, is_plain, letter, named_by, pair_text, side_text, told_from, word};
+ghost use Rattle.explanation.specs.Diy.{access_of, has_word, is_fence, letters, named_by, overlook_end, overlook_words};
+ghost use Rattle.explanation.specs.Diy.{pair_text, side_text, told_from, word};
 ghost use Rattle.explanation.specs.Diy.{IsNamedAfter, words_from, diy_line, diy_overlook_line};
 
 use common::{Addr, EventId, OutOfMemory};
@@ -16,7 +16,18 @@ use relations::{Places, Reason, next_in_cycle};
 use std::alloc::Global;
 use texts::put_text;
 
-/// The step from one load or store of a cycle to the next.
+/// What diy's words call an access.
+#[derive(Clone, Copy)]
+pub(crate) enum Access {
+    /// `R`: a load.
+    Load,
+    /// `W`: a store.
+    Store,
+    /// `RA`: a read-modify-write.
+    Atomic,
+}
+
+/// The step from one access of a cycle to the next.
 #[derive(Clone, Copy)]
 pub(crate) struct Step {
     /// The first reason for it; none where only a fence between the two is one.
@@ -25,17 +36,17 @@ pub(crate) struct Step {
     pub(crate) same_address: bool,
     /// Whether both are on one core.
     pub(crate) same_core: bool,
-    /// Whether the first is a store.
-    pub(crate) from_store: bool,
-    /// Whether the second is a store.
-    pub(crate) to_store: bool,
+    /// What the first is.
+    pub(crate) from: Access,
+    /// What the second is.
+    pub(crate) to: Access,
 }
 
-/// Whether an event is a load, a store or a fence.
-fn is_plain(event: &Event) -> bool
-    ensures { result ≡ is_plain event.now }
+/// Whether an event has a word: each but a compare-and-swap that failed.
+fn has_word(event: &Event) -> bool
+    ensures { result ≡ has_word event.now }
 {
-    matches!(event, Event::L { .. } | Event::S { .. } | Event::F)
+    !matches!(event, Event::C { .. })
 }
 
 /// Whether an event is a fence.
@@ -45,11 +56,15 @@ fn is_fence(event: &Event) -> bool
     matches!(event, Event::F)
 }
 
-/// Whether an event is a plain store.
-fn is_store(event: &Event) -> bool
-    ensures { result ≡ is_plain_store event.now }
+/// What an event is called.
+fn access_of(event: &Event) -> Access
+    ensures { result ≡ access_of event.now }
 {
-    matches!(event, Event::S { .. })
+    match event {
+        Event::L { .. } | Event::C { .. } | Event::F => Access::Load,
+        Event::S { .. } => Access::Store,
+        Event::R { .. } => Access::Atomic,
+    }
 }
 
 /// The address of a load or a store.
@@ -62,13 +77,13 @@ fn accessed(event: &Event) -> Addr
     }
 }
 
-/// Whether each event of a cycle is a load, a store or a fence.
-fn are_plain(recording: &Recording, cycle: &[EventId]) -> bool
-    ensures { result ≡ list_all (λ e. is_plain (event_at recording.now e)) cycle.now }
+/// Whether each event of a cycle has a word.
+fn have_words(recording: &Recording, cycle: &[EventId]) -> bool
+    ensures { result ≡ list_all (λ e. has_word (event_at recording.now e)) cycle.now }
 {
     for number in cycle {
         let (_, event) = event_of(recording, *number);
-        if !is_plain(&event) {
+        if !has_word(&event) {
             return false;
         }
     }
@@ -116,8 +131,8 @@ fn step_of(recording: &Recording, places: &Places<'_>, first: EventId, second: E
         reason: places.reason(first, second),
         same_address: accessed(&event) == accessed(&other),
         same_core: core == other_core,
-        from_store: is_store(&event),
-        to_store: is_store(&other),
+        from: access_of(&event),
+        to: access_of(&other),
     }
 }
 
@@ -138,11 +153,15 @@ fn steps(
     Ok(found)
 }
 
-/// The letter of a store, or of a load.
-fn letter(is_store: bool) -> &'static str
-    ensures { result.now ≡ letter is_store }
+/// The letters of an access.
+fn letters(access: Access) -> &'static str
+    ensures { result.now ≡ letters access }
 {
-    if is_store { "W" } else { "R" }
+    match access {
+        Access::Load => "R",
+        Access::Store => "W",
+        Access::Atomic => "RA",
+    }
 }
 
 /// Adds a word for two accesses of one core: whether the address is the same or a different one, and their letters.
@@ -151,8 +170,8 @@ fn add_pair(words: &mut String, head: &str, step: Step) -> Result<(), OutOfMemor
 {
     words.push_str(head)?;
     words.push_str(if step.same_address { "s" } else { "d" })?;
-    words.push_str(letter(step.from_store))?;
-    words.push_str(letter(step.to_store))?;
+    words.push_str(letters(step.from))?;
+    words.push_str(letters(step.to))?;
     Ok(())
 }
 
@@ -215,6 +234,7 @@ const CLASSICS: &[(&str, &str)] = &[
     (" Rfe PodRR Fre MFencedWR Fre", "RWC+po+mfence"),
     (" Rfe PodRW Coe MFencedWR Fre", "WRW+WR+po+mfence"),
     (" Rfe PodRW Coe PodWW Coe", "WRW+2W"),
+    (" Rfe PodRR Fre PodWW Coe", "WRR+2W"),
     (" Rfe PodRR Fre Rfe PodRR Fre", "IRIW"),
     (" Rfe PodRR Fre Rfe PodRW Coe", "IRRWIW"),
     (" Rfe PodRW Coe Rfe PodRW Coe", "IRWIW"),
@@ -301,7 +321,7 @@ fn put_line(out: &mut Vec<u8>, alloc: Global, steps: &[Step]) -> Result<(), OutO
     put_text(out, b"\n")
 }
 
-/// Adds the line of a cycle, if each of its events is a load, a store or a fence.
+/// Adds the line of a cycle, if each of its events has a word.
 pub(crate) fn put_diy(
     out: &mut Vec<u8>,
     alloc: Global,
@@ -313,7 +333,7 @@ pub(crate) fn put_diy(
     ensures { OnOk result ((line : List ℕ) × IsDiyLine recording.now cycle.now line
         × (out.new.items ≡ out.old.items ++ line)) }
 {
-    if !are_plain(recording, cycle) {
+    if !have_words(recording, cycle) {
         return Ok(());
     }
     let accesses = accesses(alloc, recording, cycle)?;
@@ -321,7 +341,45 @@ pub(crate) fn put_diy(
     put_line(out, alloc, &steps)
 }
 
-/// Adds the line of a load that overlooks a store, if it is no read-modify-write and the store none.
+/// The end of the line of a load that overlooks a store, with the name of the classic test where both are plain.
+fn overlook_end(load: Access, store: Access) -> &'static [u8]
+    ensures { result.now ≡ overlook_end load store }
+{
+    match load {
+        Access::Load => match store {
+            Access::Store => b" (CoWR)\n",
+            Access::Load | Access::Atomic => b"\n",
+        },
+        Access::Store | Access::Atomic => b"\n",
+    }
+}
+
+/// Adds the letters of an access.
+fn put_letters(out: &mut Vec<u8>, access: Access) -> Result<(), OutOfMemory>
+    ensures { OnOk result (out.new.items ≡ out.old.items ++ letters access) }
+{
+    put_text(out, letters(access).as_bytes())
+}
+
+/// Adds the end of the line of a load that overlooks a store.
+fn put_end(out: &mut Vec<u8>, load: Access, store: Access) -> Result<(), OutOfMemory>
+    ensures { OnOk result (out.new.items ≡ out.old.items ++ overlook_end load store) }
+{
+    put_text(out, overlook_end(load, store))
+}
+
+/// Adds the words of a load that overlooks a store.
+fn put_overlook(out: &mut Vec<u8>, load: Access, store: Access) -> Result<(), OutOfMemory>
+    ensures { OnOk result (out.new.items ≡ out.old.items ++ overlook_words load store) }
+{
+    put_text(out, b"In diy's words: Pos")?;
+    put_letters(out, store)?;
+    put_letters(out, load)?;
+    put_text(out, b" Fri")?;
+    put_end(out, load, store)
+}
+
+/// Adds the line of a load that overlooks a store, if both have words.
 #[tactic(auto, unfolding(crate::specs::Diy::diy_overlook_line))]
 pub(crate) fn put_overlook_line(
     out: &mut Vec<u8>,
@@ -330,9 +388,8 @@ pub(crate) fn put_overlook_line(
 ) -> Result<(), OutOfMemory>
     ensures { OnOk result (out.new.items ≡ out.old.items ++ diy_overlook_line load.now store.now) }
 {
-    if matches!(load, Event::L { .. }) && is_store(store) {
-        put_text(out, b"In diy's words: PosWR Fri (CoWR)\n")
-    } else {
-        Ok(())
+    if !has_word(load) || !has_word(store) {
+        return Ok(());
     }
+    put_overlook(out, access_of(load), access_of(store))
 }

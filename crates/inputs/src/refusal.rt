@@ -60,6 +60,7 @@ fn option_refusal_name(refusal: OptionRefusal) -> &'static str
         OptionRefusal::Show => "K10",
         OptionRefusal::States => "K12",
         OptionRefusal::Runs => "K13",
+        OptionRefusal::Cycles => "K14",
     }
 }
 

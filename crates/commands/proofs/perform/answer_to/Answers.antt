@@ -1,10 +1,18 @@
-use Rattle.std.proofs.Common.{◌<◌, length, List, Option, Some, None}
+use Rattle.std.proofs.Common.{◌<◌, [], length, Err, IfErr, List, Ok, Option, Result, Some, None}
 use Rattle.clap.specs.Words.{Row, Text}
+use Rattle.command_line.specs.declared.options.MakeOptions.{MakeOptions}
+use Rattle.command_line.specs.declared.options.MakeOptions.TheVariants.{Cycle, All as Cycles}
 use Rattle.command_line.specs.declared.options.MergeOptions.{MergeOptions}
 use Rattle.command_line.specs.declared.options.Options.TheVariants.{Merge, Trials}
 use Rattle.command_line.specs.declared.options.TrialsOptions.{TrialsOptions}
 use Rattle.command_line.specs.Options.{AreOptions, AreTrialsOptions}
-use Rattle.commands.proofs.Asking.{none_read}
+use Rattle.devices.specs.Host.{HostLog}
+use Rattle.inputs.specs.declared.command_stop.CommandStop.{CommandStop}
+use Rattle.inputs.specs.declared.command_stop.CommandStop.TheVariants.{Failed, Refused}
+use Rattle.inputs.specs.Inputs.{ReadsNamed}
+use Rattle.verdicts.specs.declared.printed.Answer.{Answer}
+use Rattle.commands.specs.Make.{IsMakeStop}
+use Rattle.commands.proofs.Asking.{failed_unread, none_read, read_none, refused_unread}
 use Rattle.commands.proofs.perform.answer_to.Goals as goal
 
 -- options of trials are those of some entries
@@ -19,6 +27,15 @@ merge_some : (o : MergeOptions) (command : Option (Text × List Row)) → AreOpt
 merge_some o None are = absurd are
 merge_some o (Some command) are = (are.3.1).some
 
+-- make reads nothing
+made_unread : (o : MakeOptions) (r : Result Answer CommandStop) (a : HostLog) → IfErr r (IsMakeStop o)
+    → ReadsNamed [] a a r
+made_unread o (Ok answer) a is = read_none a
+made_unread (Cycle words) (Err (Refused refusal)) a is = refused_unread refusal a
+made_unread (Cycle words) (Err (Failed error)) a is = failed_unread error a is
+made_unread (Cycles events forbidden) (Err (Refused refusal)) a is = absurd is
+made_unread (Cycles events forbidden) (Err (Failed error)) a is = failed_unread error a is
+
 pub trials_command-requires-after_bounds : goal.trials_command-requires-after_bounds
 trials_command-requires-after_bounds g c κs within = trials_rows c.in-Trials.trials c.requires.options.0
     (rw (← c.in-Trials.is) c.requires.options.1)
@@ -26,6 +43,10 @@ trials_command-requires-after_bounds g c κs within = trials_rows c.in-Trials.tr
 pub returns-in-Trials-clause-reads : goal.returns-in-Trials-clause-reads
 returns-in-Trials-clause-reads g c = rw c.in-Trials.is
     (none_read c.trials_command.result (g.H.Host.log c.args.host.now) c.trials_command.ensures.err)
+
+pub returns-in-Make-clause-reads : goal.returns-in-Make-clause-reads
+returns-in-Make-clause-reads g c = rw c.in-Make.is
+    (made_unread c.in-Make.make c.make_command.result (g.H.Host.log c.args.host.now) c.make_command.ensures.err)
 
 pub merge_command-requires-clause-some : goal.merge_command-requires-clause-some
 merge_command-requires-clause-some g c κs within = merge_some c.in-Merge.merge c.requires.options.0

@@ -1,0 +1,36 @@
+//! The command `make`.
+ghost use Rattle.std.specs.Prelude.{◌≡◌, IfErr, IfOk, string_bytes};
+ghost use Rattle.commands.specs.Make.{IsMakeAnswer, IsMakeStop, cycle_line};
+
+use answers::{cycles_answer, made_answer};
+use command_line::MakeOptions;
+use cycles::{CycleRefusal, make};
+use inputs::{CommandStop, PrintedRefusal};
+use report::Answer;
+use std::alloc::{AllocError, Global};
+
+/// What is printed of words that are no cycle.
+fn cycle_refusal(alloc: Global, refusal: CycleRefusal) -> Result<PrintedRefusal, AllocError>
+    ensures { IfOk result (λ printed. string_bytes printed.line ≡ cycle_line refusal) }
+{
+    let line = match refusal {
+        CycleRefusal::Word(number) => format!(in alloc; "refused: E1 word {number}\n")?,
+        CycleRefusal::Open(number) => format!(in alloc; "refused: E2 word {number}\n")?,
+        CycleRefusal::Large(number) => format!(in alloc; "refused: E3 word {number}\n")?,
+    };
+    Ok(PrintedRefusal { line, quote: None })
+}
+
+/// The program and the recording of a cycle, or the lines of all.
+pub fn make_command(alloc: Global, options: &MakeOptions) -> Result<Answer, CommandStop>
+    ensures ok { IfOk result (IsMakeAnswer options.now) }
+    ensures err { IfErr result (IsMakeStop options.now) }
+{
+    match options {
+        MakeOptions::Cycle(words) => match make(alloc, words.as_bytes())? {
+            Ok(made) => Ok(made_answer(alloc, &made)?),
+            Err(refusal) => Err(CommandStop::Refused(cycle_refusal(alloc, refusal)?)),
+        },
+        MakeOptions::All { events, forbidden } => Ok(cycles_answer(alloc, *events, *forbidden)?),
+    }
+}

@@ -1,0 +1,6 @@
+use Rattle.std.proofs.Common.{◌≡◌, ◌≤◌, count_by, take}
+use Rattle.cycles.specs.Words.{is_other_address}
+use Rattle.cycles.proofs.limits.address_count.Given as goal
+
+abbrev pub invariant-loop-word : goal.invariant-loop-word
+invariant-loop-word l = (l.count ≡ count_by is_other_address (take l.word-index l.words)) × (l.count ≤ l.word-index)
