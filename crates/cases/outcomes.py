@@ -188,6 +188,49 @@ def reported(text, log, whole):
     return 2 if forbidden else 0, out
 
 
+def event(op, value):
+    """What an operation that read a value does, without its source."""
+    if op[0] == "fence":
+        return {"k": "F"}
+    if op[0] == "st":
+        return {"a": op[1], "k": "S", "w": op[2]}
+    if op[0] == "ld":
+        return {"a": op[1], "k": "L", "r": value}
+    if op[0] == "cas" and value != op[2]:
+        return {"a": op[1], "k": "C", "r": value}
+    return {"a": op[1], "k": "R", "r": value, "w": {"swap": op[2], "add": (value + op[2]) % MODULUS, "cas": op[-1]}[op[0]]}
+
+
+def values_of(program, items):
+    """The values alone of a run that read what items say, and ended with it, where these have all reads."""
+    cores = []
+    for core, ops in enumerate(program.cores):
+        cores.append([])
+        reads = 0
+        for op in ops:
+            key = f"{core}:r{reads}"
+            if op[0] in READS and key not in items:
+                return None
+            cores[-1].append(event(op, items.get(key)))
+            reads += op[0] in READS
+    final = [items.get(f"[{name}]") for name in program.names]
+    return json.dumps({"cores": cores, "final": final, "init": program.init, "version": 3})
+
+
+def reasons(binary, text, log):
+    """What is printed beside the answer to a log by --why: what is answered of the values of the first forbidden line with all reads."""
+    program = Program(text)
+    found = program.outcomes()
+    try:
+        lines = [items for _, items in lines_of(log, program.keys()) if not any(shows(it, items) for it in found)]
+    except Refused:
+        return ""
+    values = next((it for it in (values_of(program, items) for items in lines) if it), None)
+    if values is None:
+        return ""
+    return "\n" + subprocess.run([binary, "complete", "-"], input=values.encode(), stdout=subprocess.PIPE, timeout=60).stdout.decode()
+
+
 def condition_items(program, condition):
     """The items of a condition on a program."""
     return said(re.split(r"[ \t\r]+", condition.replace("/\\", " ").strip(" \t\r")) if condition.strip(" \t\r") else [], program.keys(), False)
@@ -280,9 +323,11 @@ def is_answered(program, text, dice, folder):
     log, path = made_log(dice, text), Path(folder) / "log"
     path.write_bytes(log.encode())
     whole, condition = dice.random() < 0.5, made_condition(dice, text)
+    status, report = reported(text, log, whole)
     return (
         answer(program, ["-"], text) == (0, listed(text))
-        and answer(program, ["-", "--observed", str(path), *(["--unseen"] if whole else [])], text) == reported(text, log, whole)
+        and answer(program, ["-", "--observed", str(path), *(["--unseen"] if whole else [])], text) == (status, report)
+        and answer(program, ["-", "--why", "--observed", str(path), *(["--unseen"] if whole else [])], text) == (status, report + reasons(program, text, log))
         and answer(program, ["-", "--exists", condition], text) == conditioned(text, condition, True)
         and answer(program, ["-", "--never", condition], text) == conditioned(text, condition, False)
         and is_shown(program, text, condition)

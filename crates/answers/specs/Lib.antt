@@ -5,8 +5,10 @@ pub mod LongReduced
 pub mod Campaign
 pub mod Survey
 pub mod Outcomes
+pub mod LogAnswer
 pub mod Circles
 pub mod Part
 pub mod Completion
+pub mod Why
 pub mod Histogram
 pub mod Cycles

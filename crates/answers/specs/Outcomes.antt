@@ -7,8 +7,6 @@ use Rattle.outcomes.specs.Observed.{explains}
 use Rattle.outcomes.specs.Outcome.{Outcome}
 use Rattle.outcomes.specs.Reachable.{HasMore}
 use Rattle.outcome_texts.specs.OutcomeText.{outcomes_text}
-use Rattle.outcome_texts.specs.Report.{forbidden_count, report_text}
-use Rattle.outcome_texts.specs.Seen.{Seen}
 use Rattle.verdicts.specs.declared.printed.Answer.{Answer}
 use Rattle.verdicts.specs.declared.outcome.Outcome.{Outcome as HowItComesOut}
 use Rattle.verdicts.specs.declared.outcome.Outcome.TheVariants.{Done, Unfinished, Violation}
@@ -37,11 +35,6 @@ IsOutcomesAnswer p states answer = IsByOutcomes p states (λ os. IsText Done (ou
 -- a violation where a line of a log is forbidden
 abbrev pub log_outcome : ℕ → HowItComesOut
 log_outcome forbidden = if forbidden == 0 then Done else Violation
-
--- the report on what a log says
-abbrev pub IsLogAnswer : Parts → ℕ → List Seen → Bool → Answer → Type 0
-IsLogAnswer p states lines whole answer = IsByOutcomes p states
-    (λ os. IsText (log_outcome (forbidden_count os lines)) (report_text whole p os lines)) answer
 
 -- the condition holds of these outcomes: one has all items, or none has
 abbrev pub is_met : Condition → List Outcome → List Observation → Bool

@@ -13,13 +13,15 @@ mod reduced;
 mod rendering;
 mod runs;
 mod shown;
+mod why;
 
 pub use campaigns::{campaign_answer, survey_answer, trials_answer, values_survey_answer};
 pub use completion_answers::completion_answer;
 pub use histogram_answers::{live_histogram_answer, seeded_histogram_answer};
 pub use made_answers::{cycles_answer, made_answer};
 pub use outcome_answers::{
-    Condition, condition_answer, log_answer, met_answer, outcomes_answer, unfinished_answer,
+    Condition, LogDetails, condition_answer, log_answer, met_answer, outcomes_answer,
+    unfinished_answer,
 };
 pub use reduced::{line_answer, reduced_answer};
 pub use rendering::{Rendering, long_rendered_answer, rendered_answer};

@@ -1,11 +1,14 @@
 //! What is answered of the outcomes of a program.
 
 ghost use Rattle.std.specs.Prelude.{◌≡◌, ◌++◌, ◌∷◌, [], IfOk, codes};
-ghost use Rattle.answers.specs.Outcomes.{IsConditionAnswer, IsLogAnswer, IsOutcomesAnswer, IsText};
+ghost use Rattle.answers.specs.LogAnswer.{IsLogAnswer, IsLogReport};
+ghost use Rattle.answers.specs.Outcomes.{IsConditionAnswer, IsOutcomesAnswer, IsText};
 ghost use Rattle.answers.specs.Outcomes.{condition_outcome, condition_text, is_met, log_outcome};
+ghost use Rattle.answers.specs.Why.{IsWhyAsked};
 
+use crate::why::why_text;
 use common::OutOfMemory;
-use outcome_texts::{SeenLine, outcomes_text, report_on};
+use outcome_texts::{Report, SeenLine, outcomes_text, report_on};
 use outcomes::{Observation, explains, outcomes};
 use program::Program;
 use report::{Answer, Outcome};
@@ -59,25 +62,69 @@ fn log_outcome(forbidden: usize) -> Outcome
     }
 }
 
-/// The report on what a log says of a program, with the outcomes that no line shows if `whole`, or `unfinished` where
-/// there are more states than this. Fails only if out of memory.
+/// What is printed of a log beside its lines and how many are allowed.
+#[derive(Clone, Copy, Debug, PartialEq, Eq)]
+pub struct LogDetails {
+    /// The outcomes that no line shows.
+    pub unseen: bool,
+    /// What is answered of the values of the first forbidden line that has all reads.
+    pub why: bool,
+}
+
+/// What is printed after the report on a log, if it is asked for.
+fn why_asked(
+    alloc: Global,
+    program: &Program,
+    states: usize,
+    outcomes: &[outcomes::Outcome],
+    lines: &[SeenLine],
+    why: bool,
+) -> Result<Vec<u8>, OutOfMemory>
+    ensures { IfOk result (λ text. IsWhyAsked why program.now outcomes.now lines.now text.items) }
+{
+    if !why {
+        return Ok(Vec::new(alloc));
+    }
+    why_text(alloc, program, states, outcomes, lines)
+}
+
+/// The report on a log by all outcomes of a program.
+fn log_report(
+    alloc: Global,
+    program: &Program,
+    states: usize,
+    outcomes: &[outcomes::Outcome],
+    lines: &[SeenLine],
+    details: LogDetails,
+) -> Result<Answer, OutOfMemory>
+    ensures { IfOk result (IsLogReport program.now lines.now details outcomes.now) }
+{
+    let report = report_on(alloc, program, outcomes, lines, details.unseen)?;
+    let why = why_asked(alloc, program, states, outcomes, lines, details.why)?;
+    let Report {
+        mut text,
+        forbidden,
+    } = report;
+    text.extend_from_slice(&why)?;
+    Ok(Answer {
+        outcome: log_outcome(forbidden),
+        text,
+    })
+}
+
+/// The report on what a log says of a program, or `unfinished` where there are more states than this. Fails only if out
+/// of memory.
 pub fn log_answer(
     alloc: Global,
     program: &Program,
     states: usize,
     lines: &[SeenLine],
-    whole: bool,
+    details: LogDetails,
 ) -> Result<Answer, OutOfMemory>
-    ensures { IfOk result (IsLogAnswer program.now states lines.now whole) }
+    ensures { IfOk result (IsLogAnswer program.now states lines.now details) }
 {
     match outcomes(alloc, program, states)? {
-        Some(found) => {
-            let report = report_on(alloc, program, found.as_slice(), lines, whole)?;
-            Ok(Answer {
-                outcome: log_outcome(report.forbidden),
-                text: report.text,
-            })
-        }
+        Some(found) => log_report(alloc, program, states, found.as_slice(), lines, details),
         None => unfinished_answer(alloc),
     }
 }

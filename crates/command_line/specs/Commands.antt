@@ -56,6 +56,7 @@ commands = (
     ∷ (
       codes "outcomes",
       (codes "PROGRAM", Place) ∷ (codes "states", Number) ∷ (codes "observed", Word) ∷ (codes "unseen", Nothing)
+          ∷ (codes "why", Nothing)
           ∷ (codes "exists", Word) ∷ (codes "never", Word) ∷ (codes "items", Shown) ∷ (codes "words", Nothing) ∷ [],
     )
     ∷ (codes "complete", (codes "FILE", Place) ∷ (codes "states", Number) ∷ (codes "words", Nothing) ∷ [])

@@ -15,7 +15,7 @@ use Rattle.command_line.specs.declared.options.Limits.{Limits}
 use Rattle.command_line.specs.declared.options.Misfit.{Misfit}
 use Rattle.command_line.specs.declared.options.Misfit.TheVariants.{EachWithShow, CompleteWithShow, ReduceWithoutShow}
 use Rattle.command_line.specs.declared.options.Misfit.TheVariants.{StatesWithoutComplete}
-use Rattle.command_line.specs.declared.options.Misfit.TheVariants.{RunsWithSteps, TwoQuestions, UnseenWithoutObserved}
+use Rattle.command_line.specs.declared.options.Misfit.TheVariants.{RunsWithSteps, TwoQuestions, UnseenWithoutObserved, WhyWithoutObserved}
 use Rattle.command_line.specs.declared.options.Misfit.TheVariants.{ProgramWithLong, WorkersWithLong}
 use Rattle.command_line.specs.declared.options.Misfit.TheVariants.{CycleWithAll, ForbiddenWithoutAll, NoCycle}
 use Rattle.command_line.specs.declared.options.TheConstants.{DEFAULT_FAULT}
@@ -106,11 +106,11 @@ abbrev pub questions : List Row → ℕ
 questions rows = given (codes "observed") rows + given (codes "exists") rows + given (codes "never") rows
     + given (codes "items") rows
 
--- the options of outcomes that don't go together: two that ask different things, or --unseen without --observed
+-- the options of outcomes that don't go together: two that ask different things, or --unseen or --why without --observed
 abbrev pub question_misfit : List Row → Option Misfit
 question_misfit rows = if nat_lt 1 (questions rows) then Some TwoQuestions
     else (if is_given (codes "unseen") rows && (given (codes "observed") rows == 0) then Some UnseenWithoutObserved
-    else None)
+    else (if is_given (codes "why") rows && (given (codes "observed") rows == 0) then Some WhyWithoutObserved else None))
 
 -- the words are those of a survey without --complete: no other command has an entry for this flag
 abbrev pub surveys_recordings : List Row → Bool

@@ -84,6 +84,7 @@ pub record AreValuesAsked (v : Values) (rows : List Row) : Type 0 where
   pub complete : v.complete ≡ is_given (codes "complete") rows
   pub states : IsNumber (codes "states") STATES rows v.states
   pub unseen : v.unseen ≡ is_given (codes "unseen") rows
+  pub why : v.why ≡ is_given (codes "why") rows
   pub long : v.long ≡ is_given (codes "long") rows
   pub runs : AreRuns v.runs rows
   pub cycles : MayBeNumber (codes "cycles") CYCLES v.cycles rows
@@ -174,19 +175,19 @@ pub record AreMergeOptions (o : MergeOptions) (rows : List Row) : Type 0 where
   pub some : 0 < length o.files.items
 
 -- the question of the entries, of which one at most asks
-abbrev pub IsQuestion : Question → Bool → List Row → Type 0
-IsQuestion All unseen rows = (first_of (codes "observed") rows ≡ None) × (first_of (codes "exists") rows ≡ None)
+abbrev pub IsQuestion : Question → List Row → Type 0
+IsQuestion All rows = (first_of (codes "observed") rows ≡ None) × (first_of (codes "exists") rows ≡ None)
     × (first_of (codes "never") rows ≡ None) × (first_of (codes "items") rows ≡ None)
-IsQuestion (Observed file whole) unseen rows =
-    (first_of (codes "observed") rows ≡ Some (string_bytes file)) × (whole ≡ unseen)
-IsQuestion (Exists items) unseen rows = first_of (codes "exists") rows ≡ Some (string_bytes items)
-IsQuestion (Never items) unseen rows = first_of (codes "never") rows ≡ Some (string_bytes items)
-IsQuestion (Show items) unseen rows = first_of (codes "items") rows ≡ Some (string_bytes items)
+IsQuestion (Observed file unseen why) rows = (first_of (codes "observed") rows ≡ Some (string_bytes file))
+    × (unseen ≡ is_given (codes "unseen") rows) × (why ≡ is_given (codes "why") rows)
+IsQuestion (Exists items) rows = first_of (codes "exists") rows ≡ Some (string_bytes items)
+IsQuestion (Never items) rows = first_of (codes "never") rows ≡ Some (string_bytes items)
+IsQuestion (Show items) rows = first_of (codes "items") rows ≡ Some (string_bytes items)
 
 -- each option of outcomes is its entry, or else its default
 pub record AreOutcomesOptions (o : OutcomesOptions) (rows : List Row) : Type 0 where
   pub program : first_of (codes "PROGRAM") rows ≡ Some (string_bytes o.program)
-  pub question : IsQuestion o.question (is_given (codes "unseen") rows) rows
+  pub question : IsQuestion o.question rows
   pub states : IsNumber (codes "states") STATES rows o.states
 
 -- each option of complete is its entry, or else its default

@@ -173,11 +173,20 @@ fn merge_options(alloc: Global, matches: &ArgMatches<'_>) -> Result<MergeOptions
 }
 
 /// The question that entries ask of outcomes.
-fn question(alloc: Global, matches: &ArgMatches<'_>, unseen: bool) -> Result<Question, AllocError>
-    ensures { IfOk result (λ q. IsQuestion q unseen (rows_of (found_of matches.now))) }
+fn question(
+    alloc: Global,
+    matches: &ArgMatches<'_>,
+    values: &Values,
+) -> Result<Question, AllocError>
+    requires { AreValuesAsked values.now (rows_of (found_of matches.now)) }
+    ensures { IfOk result (λ q. IsQuestion q (rows_of (found_of matches.now))) }
 {
     if let Some(file) = maybe_given(alloc, matches, "observed")? {
-        return Ok(Question::Observed { file, unseen });
+        return Ok(Question::Observed {
+            file,
+            unseen: values.unseen,
+            why: values.why,
+        });
     }
     if let Some(items) = maybe_given(alloc, matches, "exists")? {
         return Ok(Question::Exists(items));
@@ -202,7 +211,7 @@ fn outcomes_options(
     ensures { IfOk result (λ o. AreOutcomesOptions o (rows_of (found_of matches.now))) }
 {
     let program = given(alloc, matches, "PROGRAM")?;
-    let question = question(alloc, matches, values.unseen)?;
+    let question = question(alloc, matches, values)?;
     Ok(OutcomesOptions {
         program,
         question,

@@ -289,6 +289,8 @@ pub enum Question {
         file: String,
         /// Whether the outcomes that no line shows are printed.
         unseen: bool,
+        /// Whether it is printed why TSO forbids the first forbidden line.
+        why: bool,
     },
     /// Whether one has these items.
     Exists(String),
@@ -334,6 +336,8 @@ pub enum Misfit {
     TwoQuestions,
     /// `--unseen` belongs to `--observed`.
     UnseenWithoutObserved,
+    /// `--why` belongs to `--observed`.
+    WhyWithoutObserved,
     /// `--runs` counts random runs, and `--steps` names the steps of one.
     RunsWithSteps,
     /// `--long` needs no thread, and `--workers` shares work among some.
@@ -372,7 +376,7 @@ impl Display for Misfit {
                     "error: only one of '--observed', '--exists', '--never' and '--show' can be used",
                 )?;
             }
-            Misfit::UnseenWithoutObserved => {
+            Misfit::UnseenWithoutObserved | Misfit::WhyWithoutObserved => {
                 f.write_str(
                     "error: the following required arguments were not provided:\n  --observed <FILE>",
                 )?;

@@ -355,7 +355,8 @@ perhaps left out, between spaces, with `x=1;` for `[x]=1;` too, after a count an
 `:>`, if there are any, as litmus7 prints it. A line without `=` and `;` in a word is passed
 over, and one that begins with `{`. Printed is `allowed` or `forbidden`, the count and the
 items; then `allowed: N` and `forbidden: N`, how many lines, and `unseen: N`, how many
-allowed outcomes no line shows, with `--unseen` their lines.
+allowed outcomes no line shows, with `--unseen` their lines. With `--why` comes an empty line
+and what `complete` prints of the values of the first forbidden line that has all reads.
 
 With `--exists` or `--never`, `Yes` or `No` says whether some outcome has all of the items,
 or none; between items stands a space or `/\\`.
@@ -377,6 +378,7 @@ The states of a machine with store buffers are looked at, about a million a seco
 Examples:
   tsotest outcomes store_buffering.litmus
   tsotest outcomes store_buffering.litmus --observed board.log --unseen
+  tsotest outcomes store_buffering.litmus --observed board.log --why
   tsotest outcomes store_buffering.litmus --exists '0:r0=0 1:r0=0'
   tsotest outcomes store_buffering.litmus --show '0:r0=0 1:r0=0'",
 };

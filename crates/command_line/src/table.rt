@@ -283,6 +283,13 @@ const UNSEEN: ArgumentRow = ArgumentRow {
     help: "Prints the allowed outcomes that no line of the log shows, with --observed",
 };
 
+const WHY: ArgumentRow = ArgumentRow {
+    name: "why",
+    takes: Takes::Nothing,
+    value: "",
+    help: "Prints what `complete` says of the first forbidden line with all reads, with --observed",
+};
+
 const EXISTS: ArgumentRow = ArgumentRow {
     name: "exists",
     takes: Takes::Text,
@@ -387,7 +394,7 @@ pub const COMMANDS: &[CommandRow] = &[
     CommandRow {
         name: "outcomes",
         arguments: &[
-            PROGRAM, STATES, OBSERVED, UNSEEN, EXISTS, NEVER, SHOW_ITEMS, WORDS,
+            PROGRAM, STATES, OBSERVED, UNSEEN, WHY, EXISTS, NEVER, SHOW_ITEMS, WORDS,
         ],
     },
     CommandRow {

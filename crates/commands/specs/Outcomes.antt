@@ -16,7 +16,8 @@ use Rattle.outcome_texts.specs.Seen.{Seen}
 use Rattle.verdicts.specs.declared.printed.Answer.{Answer}
 use Rattle.answers.specs.declared.outcome_answers.Condition.{Condition}
 use Rattle.answers.specs.declared.outcome_answers.Condition.TheVariants as condition
-use Rattle.answers.specs.Outcomes.{IsConditionAnswer, IsLogAnswer, IsOutcomesAnswer, IsText, IsUnfinished}
+use Rattle.answers.specs.LogAnswer.{IsLogAnswer}
+use Rattle.answers.specs.Outcomes.{IsConditionAnswer, IsOutcomesAnswer, IsText, IsUnfinished}
 use Rattle.answers.specs.Outcomes.{condition_text}
 use Rattle.recorder.specs.Text.{recording_text}
 use Rattle.recording.specs.Execution.{Execution}
@@ -31,7 +32,7 @@ use Rattle.inputs.specs.Named.{IsProgramStop, OfProgram}
 
 -- the names of the inputs of a question
 abbrev pub question_names : Question → List (List ℕ)
-question_names (Observed file whole) = string_bytes file ∷ []
+question_names (Observed file unseen why) = string_bytes file ∷ []
 question_names other = []
 
 -- the log of this name says these lines of a program
@@ -69,8 +70,9 @@ IsShownOutcome p states text answer =
 -- the answer to a question about the outcomes of a program
 abbrev pub IsQuestionAnswer : (List ℕ → Option (List ℕ)) → Parts → ℕ → Question → Answer → Type 0
 IsQuestionAnswer inputs p states All answer = IsOutcomesAnswer p states answer
-IsQuestionAnswer inputs p states (Observed file whole) answer =
-    (lines : List Seen) × IsLogAt inputs (string_bytes file) p lines × IsLogAnswer p states lines whole answer
+IsQuestionAnswer inputs p states (Observed file unseen why) answer = (lines : List Seen)
+    × IsLogAt inputs (string_bytes file) p lines
+    × IsLogAnswer p states lines (record { unseen = unseen; why = why }) answer
 IsQuestionAnswer inputs p states (Exists items) answer =
     IsConditioned p states condition.Exists (string_bytes items) answer
 IsQuestionAnswer inputs p states (Never items) answer =
@@ -101,7 +103,7 @@ IsConditionStop text (Failed error) p = error ≡ OutOfMemory
 -- why a question about the outcomes of a program is not answered
 abbrev pub IsQuestionStop : (List ℕ → Option (List ℕ)) → Question → CommandStop → Parts → Type 0
 IsQuestionStop inputs All stop p = stop ≡ Failed OutOfMemory
-IsQuestionStop inputs (Observed file whole) stop p = IsLogStop inputs (string_bytes file) stop p
+IsQuestionStop inputs (Observed file unseen why) stop p = IsLogStop inputs (string_bytes file) stop p
 IsQuestionStop inputs (Exists items) stop p = IsConditionStop (string_bytes items) stop p
 IsQuestionStop inputs (Never items) stop p = IsConditionStop (string_bytes items) stop p
 IsQuestionStop inputs (Show items) stop p = IsConditionStop (string_bytes items) stop p

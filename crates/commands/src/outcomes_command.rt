@@ -7,7 +7,7 @@ ghost use Rattle.commands.specs.Outcomes.{IsOutcomesStop, IsQuestionAnswer, IsQu
 ghost use Rattle.commands.specs.Outcomes.{question_names};
 
 use crate::shown_outcome::show_answer;
-use answers::{Condition, condition_answer, log_answer, outcomes_answer};
+use answers::{Condition, LogDetails, condition_answer, log_answer, outcomes_answer};
 use command_line::{OutcomesOptions, Question};
 use devices::Host;
 use inputs::{CommandStop, PrintedRefusal, line_refusal, program_at, text_at};
@@ -95,9 +95,13 @@ fn question_answer<H: Host>(
 {
     match question {
         Question::All => Ok(outcomes_answer(alloc, program, states)?),
-        Question::Observed { file, unseen } => {
+        Question::Observed { file, unseen, why } => {
             let lines = log_at(alloc, program, file.as_str(), host)?;
-            Ok(log_answer(alloc, program, states, &lines, *unseen)?)
+            let details = LogDetails {
+                unseen: *unseen,
+                why: *why,
+            };
+            Ok(log_answer(alloc, program, states, &lines, details)?)
         }
         Question::Exists(items) => {
             conditioned(alloc, program, states, Condition::Exists, items.as_str())

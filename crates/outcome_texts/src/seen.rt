@@ -38,7 +38,7 @@ impl SeenLine {
     }
 
     /// What was observed.
-    pub(crate) fn items(&self) -> &[Observation]
+    pub fn items(&self) -> &[Observation]
         ensures { result.now ≡ self.now.items }
     {
         &self.items

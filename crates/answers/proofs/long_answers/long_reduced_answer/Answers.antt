@@ -1,7 +1,6 @@
-use Rattle.std.proofs.Common.{ℕ, Some, List, ap, subst, sym, ◌∙◌}
+use Rattle.std.proofs.Common.{ℕ, Some, List, ap, subst, ◌∙◌}
 use Rattle.recording.specs.Execution.{Execution}
 use Rattle.long.specs.Answer.{IsLongAnswer}
-use Rattle.reduction.specs.Long.{IsLongReduction}
 use Rattle.answers.specs.LongReduced.{IsPartAnswer}
 use Rattle.answers.specs.Reduced.{heading}
 use Rattle.answers.proofs.LongParts.{part_answer}
