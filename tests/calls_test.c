@@ -165,7 +165,7 @@ static void answers(void)
           "TSO allows this recording. Its events in memory order:\n  0  core 0  st a16 1\n     the first write of a16\n");
     wants(explain_long, CYCLE, NULL, TSOTEST_VIOLATION,
           "No memory order explains this recording: these 1 events would each come before the next.\n"
-          "  0  core 0  rmw a0 = 1, from 0, wrote 1\n     before 0, which read it\n");
+          "  0  core 0  rmw a0 = 1, from 0, wrote 1\n     before 0, which read it\nIn diy's words: Rfi\n");
     wants(explain_long, "", NULL, TSOTEST_REFUSED, "refused: N1\n");
     wants(reduce_long, wide, NULL, TSOTEST_ALLOWED, "ordered: 0\n");
     wants(reduce_long, CYCLE, NULL, TSOTEST_VIOLATION,
