@@ -94,9 +94,15 @@ IsWordsRefusal ws (refusal.Word n) = ⊥
 IsWordsRefusal ws (refusal.Open n) = IsOpen ws n
 IsWordsRefusal ws (refusal.Large n) = AreTooMany ws n
 
--- the last word, where nothing was made
+-- words are a cycle within the limits
+pub record AreCycle (ws : List Word) : Type 0 where
+  pub meet : (i : ℕ) → i < length ws → Meets ws i
+  pub closed : AreClosed ws
+  pub within : (n : ℕ) → ¬ IsFirstBeyond ws n
+
+-- nothing was made of such words, of which the last is named
 abbrev pub IsUnmade : List Word → CycleRefusal → Type 0
-IsUnmade ws r = r ≡ refusal.Open (length ws)
+IsUnmade ws r = AreCycle ws × (r ≡ refusal.Open (length ws))
 
 -- why nothing is made
 abbrev pub IsRefusal : List ℕ → CycleRefusal → Type 0

@@ -3,7 +3,7 @@
 ghost use Rattle.std.specs.Prelude.{◌≡◌, IfOk, IfSome, MatchOption, MatchResult, None, Some};
 ghost use Rattle.machine.specs.ProgramOf.{IsProgramOf};
 ghost use Rattle.recording.specs.Recording.{IsShortRecording};
-ghost use Rattle.cycles.specs.Made.{HaveLetters, IsMade, IsMadeFrom, IsRefusal, IsWordsRefusal};
+ghost use Rattle.cycles.specs.Made.{AreCycle, HaveLetters, IsMade, IsMadeFrom, IsRefusal, IsWordsRefusal};
 
 use crate::checking::{have_diy_values, is_made_of};
 use crate::closing::{are_closed, first_open};
@@ -93,7 +93,7 @@ fn made_from(alloc: Global, words: &[Word]) -> Result<Option<Made>, OutOfMemory>
 
 /// Why words are no cycle within the limits, if they are none.
 fn refusal_of(words: &[Word]) -> Option<CycleRefusal>
-    ensures { IfSome result (IsWordsRefusal words.now) }
+    ensures { MatchOption result (AreCycle words.now) (IsWordsRefusal words.now) }
 {
     if let Some(at) = first_open(words) {
         return Some(CycleRefusal::Open(words.len().min(at + 2)));

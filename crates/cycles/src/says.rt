@@ -8,8 +8,9 @@ ghost use Rattle.relations.specs.Forced.{IsOlder};
 ghost use Rattle.cycles.specs.Says.{HasFence, PairSaid, Says, SideSaid, has_letter};
 
 use crate::word::{Letter, Link, Pair, Side, Word};
-use common::{Addr, EventId};
+use common::EventId;
 use event_texts::event_of;
+use explanation::accessed;
 use recording::{Event, Recording, stands_before};
 
 /// Whether an event is what a letter says.
@@ -22,16 +23,6 @@ fn has_letter(letter: Letter, event: &Event) -> bool
         Event::R { .. } => letter.is_atomic,
         Event::C { .. } => false,
         Event::F => false,
-    }
-}
-
-/// The address of an event.
-fn accessed(event: &Event) -> Addr
-    ensures { result ≡ accessed event.now }
-{
-    match event {
-        Event::L { a, .. } | Event::S { a, .. } | Event::R { a, .. } | Event::C { a, .. } => *a,
-        Event::F => 0,
     }
 }
 

@@ -67,8 +67,8 @@ fn access_of(event: &Event) -> Access
     }
 }
 
-/// The address of a load or a store.
-fn accessed(event: &Event) -> Addr
+/// The address of an event, 0 of a fence.
+pub fn accessed(event: &Event) -> Addr
     ensures { result ≡ accessed event.now }
 {
     match event {

@@ -10,5 +10,6 @@ mod placed;
 mod program_of;
 mod words;
 
+pub use diy::accessed;
 pub use program_of::is_program_of;
 pub use words::explanation_text;
