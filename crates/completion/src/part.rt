@@ -16,7 +16,7 @@ use std::alloc::Global;
 use values::Values;
 
 /// How many situations are looked at where a run of events is taken away.
-const RUN_LIMIT: u32 = 1_000;
+const RUN_LIMIT: usize = 1_000;
 
 /// How many tries with all events taking runs away may cost. A try with fewer events costs less.
 const RUN_TRIES: usize = 32;
@@ -50,7 +50,7 @@ fn try_row(
     values: &Values,
     table: &[Placed],
     row: BitRow,
-    limit: u32,
+    limit: usize,
 ) -> Result<Tried, OutOfMemory>
     requires table { IsTable values.now table.now }
     requires row { length row ≡ length table.now }
@@ -85,7 +85,7 @@ fn try_each(
     values: &Values,
     table: &[Placed],
     left: &Left,
-    limit: u32,
+    limit: usize,
 ) -> Result<Tried, OutOfMemory>
     requires table { IsTable values.now table.now }
     requires few { length table.now ≤ MAX_EVENTS }
@@ -110,7 +110,7 @@ fn cut(
     values: &Values,
     table: &[Placed],
     left: Left,
-    limit: u32,
+    limit: usize,
 ) -> Result<Left, OutOfMemory>
     requires table { IsTable values.now table.now }
     requires few { length table.now ≤ MAX_EVENTS }
@@ -139,7 +139,7 @@ fn minimal(
     values: &Values,
     table: &[Placed],
     left: Left,
-    limit: u32,
+    limit: usize,
 ) -> Result<Option<Part>, OutOfMemory>
     requires table { IsTable values.now table.now }
     requires few { length table.now ≤ MAX_EVENTS }
@@ -164,7 +164,7 @@ fn minimal(
 /// values TSO does not allow, though it does allow them without any one event and without the reads that it alone could
 /// feed. None where TSO allows the values, where a search would look at more than `limit` situations, and where it would
 /// take long: after some tries with all events, more than 64 are left. Fails only if out of memory.
-pub fn part_of(alloc: Global, values: &Values, limit: u32) -> Result<Option<Part>, OutOfMemory>
+pub fn part_of(alloc: Global, values: &Values, limit: usize) -> Result<Option<Part>, OutOfMemory>
     ensures { IfOk result (λ o. IfSome o (λ p. IsPart values.now p)) }
 {
     let table = table(alloc, values)?;

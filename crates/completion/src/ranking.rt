@@ -1,14 +1,23 @@
 //! The order in which moves are tried.
 
+ghost use Rattle.std.specs.Prelude.{◌≡◌, ◌≤◌, ◌<◌, ◌⊎◌, ◌+◌, ℕ, Contains, IfNone, IfOk, OnOk, None, Some, length, map, slice_get, slice_index_or};
+ghost use Rattle.recording.specs.declared.event.Event.TheVariants.{F};
+ghost use Rattle.recording.specs.Event.{written_address};
+ghost use Rattle.completion.specs.declared.moves.Move.{Move};
+ghost use Rattle.completion.specs.declared.moves.Turn.{Turn};
 ghost use Rattle.completion.specs.Pairs.{AreForced, IsSquare};
+ghost use Rattle.completion.specs.Search.{IsEarly};
+ghost use Rattle.completion.specs.Seen.{IsTaken};
+ghost use Rattle.completion.specs.Situation.{moved};
 
 use crate::counts::core_count;
 use crate::early::is_early;
 use crate::events::{between, oldest, value_at};
-use crate::moves::{Move, Waiting};
+use crate::moves::{Move, Turn, Waiting};
 use crate::row::Row;
 use bitrow::BitRow;
 use common::{Addr, OutOfMemory};
+use recording::Event;
 use std::alloc::Global;
 use values::Values;
 
@@ -41,24 +50,34 @@ impl Mixer {
     }
 }
 
+/// The write of the event at a place, if it writes.
+fn write_at(events: &[Event], place: usize) -> Option<Waiting>
+    requires { place < length events.now }
+    ensures { IfNone result (written_address (slice_index_or events.now place F) ≡ None) }
+{
+    let address = events[place].written_address()?;
+    Some(Waiting {
+        place,
+        address,
+        value: events[place].value_written(),
+    })
+}
+
 /// The write that a move of a core brings to memory, if the move can be made as far as its place says.
-pub(crate) fn write_of(values: &Values, row: &Row, step: Move, core: usize) -> Option<Waiting> {
-    let events = values.events(core);
-    let place = row.place(core);
-    match step {
+pub(crate) fn write_of(values: &Values, row: &Row, turn: Turn) -> Option<Waiting>
+    ensures { IfNone result (moved values.now row.now turn.step turn.core ≡ None) }
+{
+    let events = values.events(turn.core);
+    let place = row.place(turn.core);
+    match turn.step {
         Move::Modify => {
             if place >= events.len() {
                 return None;
             }
-            let address = events[place].written_address()?;
-            Some(Waiting {
-                place,
-                address,
-                value: events[place].value_written(),
-            })
+            write_at(events, place)
         }
         Move::Drain => {
-            let from = row.drained(core);
+            let from = row.drained(turn.core);
             let waiting = between(events, from, place);
             if waiting.is_empty() {
                 return None;
@@ -105,89 +124,128 @@ fn is_late(values: &Values, row: &Row, core: usize, write: Waiting) -> bool {
     !is_wanted(values, row, write.address, write.value) && is_needed(values, row, core, write, old)
 }
 
-/// A number for a move of a core.
-fn code(step: Move, core: usize) -> u64 {
-    let both = (core as u64).saturating_mul(2);
-    match step {
-        Move::Modify => both,
-        Move::Drain => both.saturating_add(1),
-    }
+/// A move with its rank: whether it is better made later.
+#[derive(Clone, Copy)]
+struct Choice {
+    /// The move.
+    turn: Turn,
+    /// Whether others come first.
+    late: bool,
 }
 
-/// The move of a number, and its core.
-pub(crate) fn decode(code: u64) -> (Move, usize) {
-    let code = code % PLACE;
-    let core = (code / 2) as usize;
-    if code % 2 == 0 {
-        (Move::Modify, core)
-    } else {
-        (Move::Drain, core)
-    }
-}
-
-/// Adds a move of a core with its rank, unless it can't be made or comes too early.
+/// Adds a move with its rank, unless it can't be made or comes too early.
 fn add(
     values: &Values,
     pairs: &[BitRow],
     row: &Row,
-    step: Move,
-    core: usize,
+    turn: Turn,
     mixer: &mut Mixer,
-    found: &mut Vec<u64>,
+    found: &mut Vec<Choice>,
 ) -> Result<(), OutOfMemory>
     requires square { IsSquare pairs.now }
     requires forced { AreForced values.now pairs.now }
+    ensures more { OnOk result ((t : Turn) → IsTaken values.now row.now (map (λ x. x.turn) found.old.items) t.step t.core
+        → IsTaken values.now row.now (map (λ x. x.turn) found.new.items) t.step t.core) }
+    ensures added { OnOk result (IsTaken values.now row.now (map (λ x. x.turn) found.new.items) turn.step turn.core) }
 {
-    let Some(write) = write_of(values, row, step, core) else {
+    let Some(write) = write_of(values, row, turn) else {
         return Ok(());
     };
-    if is_early(values, pairs, row, step, core) {
+    if is_early(values, pairs, row, turn.step, turn.core) {
         return Ok(());
     }
-    let mut late = is_late(values, row, core, write);
+    let mut late = is_late(values, row, turn.core, write);
     if !mixer.is_plain() && mixer.next() >> 60 == 0 {
         late = !late;
     }
-    let rank: u64 = if late { RANK } else { 0 };
-    found.push(rank.saturating_add(code(step, core)))?;
+    found.push(Choice { turn, late })?;
     Ok(())
 }
 
-/// What a rank adds to the number of a move, above that of each.
-const RANK: u64 = 1 << 40;
+/// The moves of all cores that can be made and don't come too early, with their ranks.
+fn moves_of(
+    alloc: Global,
+    values: &Values,
+    pairs: &[BitRow],
+    row: &Row,
+    mixer: &mut Mixer,
+) -> Result<Vec<Choice>, OutOfMemory>
+    requires square { IsSquare pairs.now }
+    requires forced { AreForced values.now pairs.now }
+    ensures { IfOk result (λ found. (step : Move) (c : ℕ) → c < length values.now.cores
+        → IsTaken values.now row.now (map (λ x. x.turn) found.items) step c) }
+{
+    let mut found = Vec::new(alloc);
+    for core in 0..core_count(values) {
+        let modify = Turn {
+            step: Move::Modify,
+            core,
+        };
+        let drain = Turn {
+            step: Move::Drain,
+            core,
+        };
+        add(values, pairs, row, modify, mixer, &mut found)?;
+        add(values, pairs, row, drain, mixer, &mut found)?;
+    }
+    Ok(found)
+}
 
-/// What a place in the order adds.
-const PLACE: u64 = 1 << 20;
+/// Adds the moves of a rank that stand between two places.
+fn take(
+    found: &[Choice],
+    from: usize,
+    to: usize,
+    late: bool,
+    moves: &mut Vec<Turn>,
+) -> Result<(), OutOfMemory>
+    requires { to ≤ length found.now }
+    ensures more { OnOk result ((t : Turn) → Contains moves.old.items t → Contains moves.new.items t) }
+    ensures taken { OnOk result ((i : ℕ) (x : Choice) → from ≤ i → i < to → slice_get found.now i ≡ Some x
+        → x.late ≡ late → Contains moves.new.items x.turn) }
+{
+    for i in from..to {
+        if found[i].late == late {
+            moves.push(found[i].turn)?;
+        }
+    }
+    Ok(())
+}
 
-/// The moves of all cores that can be made and don't come too early, as numbers, those that are tried first first.
+/// The moves in the order in which they are tried: the late ones last, from a place on and round.
+fn ordered(alloc: Global, found: &[Choice], first: usize) -> Result<Vec<Turn>, OutOfMemory>
+    requires { first ≤ length found.now }
+    ensures { IfOk result (λ moves. (t : Turn) → Contains (map (λ x. x.turn) found.now) t → Contains moves.items t) }
+{
+    let count = found.len();
+    let mut moves = Vec::with_capacity(alloc, count)?;
+    take(found, first, count, false, &mut moves)?;
+    take(found, 0, first, false, &mut moves)?;
+    take(found, first, count, true, &mut moves)?;
+    take(found, 0, first, true, &mut moves)?;
+    Ok(moves)
+}
+
+/// The moves of all cores that can be made and don't come too early, those that are tried first first.
 pub(crate) fn ranked(
     alloc: Global,
     values: &Values,
     pairs: &[BitRow],
     row: &Row,
     mixer: &mut Mixer,
-) -> Result<Vec<u64>, OutOfMemory>
+) -> Result<Vec<Turn>, OutOfMemory>
     requires square { IsSquare pairs.now }
     requires forced { AreForced values.now pairs.now }
+    ensures { IfOk result (λ moves. (step : Move) (c : ℕ) → c < length values.now.cores
+        → IsTaken values.now row.now moves.items step c) }
 {
-    let mut found = Vec::new(alloc);
-    for core in 0..core_count(values) {
-        add(values, pairs, row, Move::Modify, core, mixer, &mut found)?;
-        add(values, pairs, row, Move::Drain, core, mixer, &mut found)?;
-    }
+    let found = moves_of(alloc, values, pairs, row, mixer)?;
     let count = found.len();
-    let shift = if mixer.is_plain() || count == 0 {
+    let first = if mixer.is_plain() || count == 0 {
         0
     } else {
         (mixer.next() >> 33) as usize % count
     };
-    let mut keys = Vec::with_capacity(alloc, count)?;
-    for i in 0..count {
-        let from = i.saturating_add(shift) % count;
-        if from < found.len() {
-            keys.push(found[from].saturating_add((i as u64).saturating_mul(PLACE)))?;
-        }
-    }
-    keys.sort()?;
-    Ok(keys)
+    let moves = ordered(alloc, &found, first)?;
+    Ok(moves)
 }

@@ -3,7 +3,7 @@ use Rattle.std.proofs.lemmas.Option.{same_Some}
 use Rattle.recording.specs.declared.event.Event.{Event}
 use Rattle.recording.specs.Event.{value_read}
 use Rattle.completion.specs.Sources.{MayGive}
-use Rattle.completion.proofs.Found.{given_inside, matches_given}
+use Rattle.completion.proofs.FoundSources.{given_inside, matches_given}
 use Rattle.completion.proofs.sources.source_by_value.Goals as goal
 
 pub source_without-requires-clause-none : goal.source_without-requires-clause-none

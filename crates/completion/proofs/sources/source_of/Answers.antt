@@ -1,7 +1,7 @@
 use Rattle.std.proofs.Common.{List, Option, ℕ, None, get_or, sym, subst, ap, ◌∙◌}
 use Rattle.completion.specs.declared.sources.Source.{Source}
 use Rattle.completion.specs.Sources.{IsFoundSource}
-use Rattle.completion.proofs.Found.{found_known}
+use Rattle.completion.proofs.FoundSources.{found_known}
 use Rattle.completion.proofs.sources.source_of.Goals as goal
 
 pub returns-in-Some : goal.returns-in-Some

@@ -1,0 +1,155 @@
+use Rattle.std.proofs.Common.{◌≡◌, ◌<◌, ◌+◌, ◌-◌, ◌++◌, ◌∷◌, [], ◌∙◌, inl, inr, ℕ, Some, List, length, get_or, slice_get, vec_len, arith, ap, sym, subst, refl}
+use Rattle.std.specs.List.{Contains}
+use Rattle.std.proofs.lemmas.Bool.{cases_eq}
+use Rattle.std.proofs.lemmas.List.{get_or_default}
+use Rattle.values.specs.Values.{Values}
+use Rattle.std.proofs.lemmas.Option.{same_Some, slice_get-get_or, slice_get_within}
+use Rattle.completion.specs.declared.moves.Move.{Move}
+use Rattle.completion.specs.declared.moves.Turn.{Turn}
+use Rattle.completion.specs.declared.seen.Seen.{Seen}
+use Rattle.completion.specs.Seen.{Grows, HasNumber, IsTaken, IsVain}
+use Rattle.completion.specs.Situation.{Situation, beginning, moved}
+use Rattle.completion.proofs.Rank.{rank, most_rank}
+use Rattle.completion.proofs.Vain.{all_vain, buried_dead, buried_grows, buried_searched, grows_on, popped, step_comes, step_falls, vain_still}
+use Rattle.completion.proofs.search.+explore.Goals as goal
+use Rattle.completion.proofs.search.+explore.Goals.{in-Vain, in-Row+in_ok-came-in-Row+in-Dead}
+
+pub explore-requires : goal.explore-requires
+explore-requires t c =
+    let v = c.args.values.now in
+    let old : Seen = c.args.way.now.seen in
+    let seen : Seen = c.loop-turn.way.seen in
+    let new : Seen = c.reach.new.way.seen in
+    let row = c.in_ok-reach.ensures.row c.in-Row.next c.in-Row.is in
+    let falls : most_rank v + 1 - rank (get_or new.rows.keys c.in-Row.next (beginning v))
+    < most_rank v + 1 - rank (get_or old.rows.keys c.args.number (beginning v)) =
+    step_falls v old seen new c.args.number c.in-Row.next _ c.requires.searched c.requires.there
+    c.loop-turn.invariant.grows row.0 row.1 in (
+      (let now : most_rank v + 1 - rank (get_or old.rows.keys c.args.number (beginning v)) ≡ t = c.decreases in
+          let less : most_rank v + 1 - rank (get_or new.rows.keys c.in-Row.next (beginning v)) < t = omega (arith, falls, now) in
+          less),
+      (
+        c.requires.square,
+        (
+          c.requires.forced,
+          (
+            c.in_ok-reach.ensures.searched,
+            (
+              row.1,
+              step_comes v old seen new c.args.number c.in-Row.next _ c.requires.searched c.requires.there
+                  c.loop-turn.invariant.grows row.0 c.args.way.now.turns.items c.loop-turn.way.turns.items
+                  c.reach.new.way.turns.items c.requires.comes c.loop-turn.invariant.turns row.2,
+            ),
+          ),
+        ),
+      ),
+    )
+
+pub bury-requires : goal.bury-requires
+bury-requires t c =
+    let r : Situation = get_or c.args.way.now.seen.rows.keys c.args.number (beginning c.args.values.now) in
+    let at : HasNumber c.loop-turn.way.seen r c.args.number = c.loop-turn.invariant.grows.rows r c.args.number
+    (slice_get-get_or c.args.way.now.seen.rows.keys c.args.number (beginning c.args.values.now) c.requires.there) in
+    omega (arith, slice_get_within c.loop-turn.way.seen.rows.keys c.args.number r at, c.loop-turn.invariant.searched.size)
+
+pub returns-clause-grows : goal.returns-clause-grows
+returns-clause-grows t c =
+    let seen : Seen = c.loop-turn.way.seen in
+    let r : Situation = get_or c.args.way.now.seen.rows.keys c.args.number (beginning c.args.values.now) in
+    let at : HasNumber seen r c.args.number = c.loop-turn.invariant.grows.rows r c.args.number
+    (slice_get-get_or c.args.way.now.seen.rows.keys c.args.number (beginning c.args.values.now) c.requires.there) in
+    grows_on c.args.way.now.seen seen c.bury.new.self c.loop-turn.invariant.grows
+    (buried_grows c.args.values.now seen c.bury.new.self c.args.number c.loop-turn.invariant.searched
+    c.bury.ensures.rows c.bury.ensures.dead (slice_get_within seen.rows.keys c.args.number r at))
+
+pub returns-clause-searched : goal.returns-clause-searched
+returns-clause-searched t c =
+    let v = c.args.values.now in
+    let seen : Seen = c.loop-turn.way.seen in
+    let first : Situation = get_or c.args.way.now.seen.rows.keys c.args.number (beginning c.args.values.now) in
+    let here : HasNumber c.args.way.now.seen first c.args.number =
+    slice_get-get_or c.args.way.now.seen.rows.keys c.args.number (beginning c.args.values.now) c.requires.there in
+    let at : HasNumber seen first c.args.number = c.loop-turn.invariant.grows.rows first c.args.number here in
+    buried_searched v seen c.bury.new.self c.args.number c.loop-turn.invariant.searched
+    c.bury.ensures.rows c.bury.ensures.dead (slice_get_within seen.rows.keys c.args.number first at)
+    (λ r number move d.
+    let was : HasNumber c.args.way.now.seen r c.args.number =
+    here ∙ ap (λ (z : Situation). Some z) (same_Some first r (sym at ∙ number)) in
+    let row : c.row.result.now ≡ r = same_Some c.row.result.now r (sym c.row.ensures ∙ was) in
+    all_vain v seen r c.in_ok-moves.moves.items
+    (λ step e core. subst (λ (z : Situation). IsTaken v z c.in_ok-moves.moves.items step e) row
+    (c.in_ok-moves.ensures step e core))
+    (λ u there.
+    let items = c.deref-turn-items.ensures.value in
+    let vain = c.loop-turn.invariant.vain there.0 u r (omega (
+      arith,
+      there.1,
+      c.loop-turn-test.false,
+      ap (λ (l : List Turn). length l) items,
+    )) was in
+    let is : get_or c.deref-turn-items.result.now there.0 u ≡ u =
+    ap (λ (l : List Turn). get_or l there.0 u) items ∙ there.2 in
+    subst (λ (z : Turn). IsVain v seen r z.step z.core) is vain) move d)
+
+pub returns-clause-dead : goal.returns-clause-dead
+returns-clause-dead t c is = (
+  c.loop-turn.invariant.turns,
+  λ r was.
+      let at : HasNumber c.loop-turn.way.seen r c.args.number = c.loop-turn.invariant.grows.rows r c.args.number was in
+      buried_dead c.args.values.now c.loop-turn.way.seen c.bury.new.self c.args.number c.loop-turn.invariant.searched
+      c.bury.ensures.rows c.bury.ensures.dead
+      (slice_get_within c.loop-turn.way.seen.rows.keys c.args.number r at) r at,
+)
+
+-- the move at a place, whatever stands past the end
+at_last : (v : Values) (seen : Seen) (r : Situation) (l : List Turn) (i n : ℕ) (d e : Turn) → n < length l → i ≡ n
+    → IsVain v seen r (get_or l n e).step (get_or l n e).core → IsVain v seen r (get_or l i d).step (get_or l i d).core
+at_last v seen r l i n d e inside one vain =
+    subst (λ (z : Turn). IsVain v seen r z.step z.core)
+    (get_or_default l n e d inside ∙ ap (λ (k : ℕ). get_or l k d) (sym one)) vain
+
+pub loop-turn-preserved : goal.loop-turn-preserved
+loop-turn-preserved t c =
+    let v = c.args.values.now in
+    let seen : Seen = c.loop-turn.way.seen in
+    let items : List Turn = c.deref-turn-items.result.now in
+    let inv = c.loop-turn.invariant in
+    elim c.match-branch-3.branch [
+      | in-Vain w ↦
+          let vain = c.in_ok-reach.ensures.vain w.in-Vain.is in
+          rw w.way'-is (record {
+            searched = c.in_ok-reach.ensures.searched;
+            grows = grows_on c.args.way.now.seen seen c.reach.new.way.seen inv.grows c.in_ok-reach.ensures.grows;
+            limit = ap (λ z. z.limit) vain.0 ∙ inv.limit;
+            most = ap (λ z. z.most) vain.0 ∙ inv.most;
+            turns = ap (λ z. z.turns.items) vain.0 ∙ inv.turns;
+            vain = λ i d r low was. elim (cases_eq i c.loop-turn.turn-index) [
+              | inr other ↦ vain_still v seen c.reach.new.way.seen r (get_or items i d).step (get_or items i d).core
+                  c.in_ok-reach.ensures.grows (inv.vain i d r (omega (arith, low, other)) was)
+              | inl one ↦ at_last v c.reach.new.way.seen r items i c.loop-turn.turn-index d _ c.loop-turn-test.true one
+                  (vain.1 r (inv.grows.rows r c.args.number was))
+            ];
+          })
+      | in-Row+in_ok-came-in-Row+in-Dead w ↦
+          let new : Seen = w.explore.new.way.seen in
+          let row = c.in_ok-reach.ensures.row w.in-Row.next w.in-Row.is in
+          let dead = w.in_ok-came-in-Row.ensures.dead w.in-Dead.is in
+          let grows : Grows seen new =
+          grows_on seen c.reach.new.way.seen new c.in_ok-reach.ensures.grows w.in_ok-came-in-Row.ensures.grows in
+          rw w.way'-is (record {
+            searched = w.in_ok-came-in-Row.ensures.searched;
+            grows = grows_on c.args.way.now.seen seen new inv.grows grows;
+            limit = w.in_ok-came-in-Row.ensures.limit ∙ (c.in_ok-reach.ensures.limit ∙ inv.limit);
+            most = w.in_ok-came-in-Row.ensures.most ∙ (c.in_ok-reach.ensures.most ∙ inv.most);
+            turns = popped c.loop-turn.way.turns.items w.explore.new.way.turns.items w.pop-turn.new.self.items _
+                (vec_len w.explore.new.way.turns) (dead.0 ∙ row.2)
+                (let size : vec_len w.explore.new.way.turns ≡ length w.explore.new.way.turns.items =
+                omega (arith, w.explore.new.way.turns.ok.0) in size) w.pop-turn.ensures.rest ∙ inv.turns;
+            vain = λ i d r low was. elim (cases_eq i c.loop-turn.turn-index) [
+              | inr other ↦ vain_still v seen new r (get_or items i d).step (get_or items i d).core grows
+                  (inv.vain i d r (omega (arith, low, other)) was)
+              | inl one ↦ at_last v new r items i c.loop-turn.turn-index d _ c.loop-turn-test.true one
+                  (inr (λ s is. inr (dead.1 s (sym (row.0 r (inv.grows.rows r c.args.number was)) ∙ is))))
+            ];
+          })
+    ]
