@@ -58,10 +58,10 @@ placed_alone k [] = refl
 placed_alone k (es ∷ cores) = tagged_unsourced k es (placed_from (k + 1) (map (λ fs. map unsourced fs) cores))
     (placed_from (k + 1) cores) (placed_alone (k + 1) cores)
 
-module _ (v : Values) (x : Execution) (m : List ℕ) (h : IsCompletion v x m) where
+module _ (v : Values) (x : Execution) (h : map (map unsourced) x.cores ≡ v.cores) where
   -- their events are those of the execution
   placed_is : placed_from 0 v.cores ≡ map placed_unsourced (placed_from 0 x.cores)
-  placed_is = sym (ap (placed_from 0) h.cores) ∙ placed_alone 0 x.cores
+  placed_is = sym (ap (placed_from 0) h) ∙ placed_alone 0 x.cores
 
   at_number : (e : ℕ) → get_or (placed_from 0 v.cores) e (0, F)
       ≡ placed_unsourced (get_or (placed_from 0 x.cores) e (0, F))
@@ -70,50 +70,96 @@ module _ (v : Values) (x : Execution) (m : List ℕ) (h : IsCompletion v x m) wh
       ap (λ (l : List (ℕ × Event)). get_or l e fence) placed_is
       ∙ lists.get_or-map placed_unsourced (placed_from 0 x.cores) e fence
 
-  pub event_alone : (e : ℕ) → event_at (events_alone v) e ≡ unsourced (event_at x e)
+  pub event_with : (e : ℕ) → event_at (events_alone v) e ≡ unsourced (event_at x e)
   unfolding event_at
-  event_alone e = ap (λ (p : ℕ × Event). p.1) (at_number e)
+  event_with e = ap (λ (p : ℕ × Event). p.1) (at_number e)
+
+  pub core_with : (e : ℕ) → core_of (events_alone v) e ≡ core_of x e
+  unfolding core_of
+  core_with e = ap (λ (p : ℕ × Event). p.0) (at_number e)
+
+  pub count_with : event_count (events_alone v) ≡ event_count x
+  unfolding event_count
+  count_with = ap (λ (l : List (ℕ × Event)). length l) placed_is ∙ length-map (placed_from 0 x.cores) placed_unsourced
+
+  pub reads_with : (e a : ℕ) → Reads (events_alone v) e a → Reads x e a
+  reads_with e a r = sym (same_address (event_at x e)) ∙ (ap read_address (sym (event_with e)) ∙ r)
+
+  pub with_reads : (e a : ℕ) → Reads x e a → Reads (events_alone v) e a
+  with_reads e a r = ap read_address (event_with e) ∙ (same_address (event_at x e) ∙ r)
+
+  pub writes_with : (e a : ℕ) → Writes (events_alone v) e a → Writes x e a
+  writes_with e a w = sym (same_write (event_at x e)) ∙ (ap written_address (sym (event_with e)) ∙ w)
+
+  pub with_writes : (e a : ℕ) → Writes x e a → Writes (events_alone v) e a
+  with_writes e a w = ap written_address (event_with e) ∙ (same_write (event_at x e) ∙ w)
+
+  pub value_with : (e : ℕ) → value_read (event_at (events_alone v) e) ≡ value_read (event_at x e)
+  value_with e = ap value_read (event_with e) ∙ same_value (event_at x e)
+
+  pub written_with : (e : ℕ) → value_written (event_at (events_alone v) e) ≡ value_written (event_at x e)
+  written_with e = ap value_written (event_with e) ∙ same_written (event_at x e)
+
+  pub order_with : (e f : ℕ) → ProgramOrder (events_alone v) e f → ProgramOrder x e f
+  order_with e f p = (p.0, omega (arith, p.1, count_with), sym (core_with e) ∙ (p.2 ∙ core_with f))
+
+  pub with_order : (e f : ℕ) → ProgramOrder x e f → ProgramOrder (events_alone v) e f
+  with_order e f p = (p.0, omega (arith, p.1, count_with), core_with e ∙ (p.2 ∙ sym (core_with f)))
+
+  pub kept_with : (e f : ℕ) → Kept (events_alone v) e f → Kept x e f
+  kept_with e f k = (
+    order_with e f k.0,
+    ap (λ (b : Bool). b && is_plain_load (event_at x f))
+        (sym (ap is_plain_store (event_with e) ∙ unsourced_same (event_at x e)))
+        ∙ (ap (λ (b : Bool). is_plain_store (event_at (events_alone v) e) && b)
+        (sym (ap is_plain_load (event_with f) ∙ same_load (event_at x f))) ∙ k.1),
+  )
+
+  pub with_kept : (e f : ℕ) → Kept x e f → Kept (events_alone v) e f
+  with_kept e f k = (
+    with_order e f k.0,
+    ap (λ (b : Bool). b && is_plain_load (event_at (events_alone v) f))
+        (ap is_plain_store (event_with e) ∙ unsourced_same (event_at x e))
+        ∙ (ap (λ (b : Bool). is_plain_store (event_at x e) && b)
+        (ap is_plain_load (event_with f) ∙ same_load (event_at x f)) ∙ k.1),
+  )
+
+module _ (v : Values) (x : Execution) (m : List ℕ) (h : IsCompletion v x m) where
+  pub event_alone : (e : ℕ) → event_at (events_alone v) e ≡ unsourced (event_at x e)
+  event_alone = event_with v x h.cores
 
   pub core_alone : (e : ℕ) → core_of (events_alone v) e ≡ core_of x e
-  unfolding core_of
-  core_alone e = ap (λ (p : ℕ × Event). p.0) (at_number e)
+  core_alone = core_with v x h.cores
 
   pub count_alone : event_count (events_alone v) ≡ event_count x
-  unfolding event_count
-  count_alone = ap (λ (l : List (ℕ × Event)). length l) placed_is ∙ length-map (placed_from 0 x.cores) placed_unsourced
+  count_alone = count_with v x h.cores
 
   pub reads_alone : (e a : ℕ) → Reads (events_alone v) e a → Reads x e a
-  reads_alone e a r = sym (same_address (event_at x e)) ∙ (ap read_address (sym (event_alone e)) ∙ r)
+  reads_alone = reads_with v x h.cores
 
   pub writes_alone : (e a : ℕ) → Writes (events_alone v) e a → Writes x e a
-  writes_alone e a w = sym (same_write (event_at x e)) ∙ (ap written_address (sym (event_alone e)) ∙ w)
+  writes_alone = writes_with v x h.cores
 
   pub alone_writes : (e a : ℕ) → Writes x e a → Writes (events_alone v) e a
-  alone_writes e a w = ap written_address (event_alone e) ∙ (same_write (event_at x e) ∙ w)
+  alone_writes = with_writes v x h.cores
 
   pub value_alone : (e : ℕ) → value_read (event_at (events_alone v) e) ≡ value_read (event_at x e)
-  value_alone e = ap value_read (event_alone e) ∙ same_value (event_at x e)
+  value_alone = value_with v x h.cores
 
   pub written_alone : (e : ℕ) → value_written (event_at (events_alone v) e) ≡ value_written (event_at x e)
-  written_alone e = ap value_written (event_alone e) ∙ same_written (event_at x e)
+  written_alone = written_with v x h.cores
 
   pub initial_alone : (a : ℕ) → initial_value (events_alone v) a ≡ initial_value x a
   initial_alone a = ap (λ (l : List ℕ). get_or l a 0) (sym h.initial)
 
   pub order_alone : (e f : ℕ) → ProgramOrder (events_alone v) e f → ProgramOrder x e f
-  order_alone e f p = (p.0, omega (arith, p.1, count_alone), sym (core_alone e) ∙ (p.2 ∙ core_alone f))
+  order_alone = order_with v x h.cores
 
   pub alone_order : (e f : ℕ) → ProgramOrder x e f → ProgramOrder (events_alone v) e f
-  alone_order e f p = (p.0, omega (arith, p.1, count_alone), core_alone e ∙ (p.2 ∙ sym (core_alone f)))
+  alone_order = with_order v x h.cores
 
   pub kept_alone : (e f : ℕ) → Kept (events_alone v) e f → Kept x e f
-  kept_alone e f k = (
-    order_alone e f k.0,
-    ap (λ (b : Bool). b && is_plain_load (event_at x f))
-        (sym (ap is_plain_store (event_alone e) ∙ unsourced_same (event_at x e)))
-        ∙ (ap (λ (b : Bool). is_plain_store (event_at (events_alone v) e) && b)
-        (sym (ap is_plain_load (event_alone f) ∙ same_load (event_at x f))) ∙ k.1),
-  )
+  kept_alone = kept_with v x h.cores
 
 -- Tables
 

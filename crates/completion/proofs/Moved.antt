@@ -43,17 +43,19 @@ pub record Modifies (v : Values) (s : Situation) (c : ℕ) (t : Situation) : Typ
   pub may : may_read (source_at v c (place_of s c)) (slice_index s.memory.marks a) ≡ true
   pub is : t ≡ written v (with_place s c (place_of s c + 1)) c (place_of s c) a w
 
+-- a store is the oldest that waits on its core
+pub record IsNextStore (v : Values) (s : Situation) (c : ℕ) (x : Waiting) : Type 0 where
+  pub from : drained_of s c ≤ x.place
+  pub to : x.place < place_of s c
+  pub inside : x.place < length (events_of v.cores c)
+  pub event : get_or (events_of v.cores c) x.place F ≡ S x.address x.value
+  pub first : (j : ℕ) → drained_of s c ≤ j → j < x.place → is_plain_store (get_or (events_of v.cores c) j F) ≡ false
+
 -- what a move of a waiting store does
 pub record Drains (v : Values) (s : Situation) (c : ℕ) (t : Situation) : Type 0 where
-  pub at : ℕ
-  pub a : ℕ
-  pub w : ℕ
-  pub from : drained_of s c ≤ at
-  pub to : at < place_of s c
-  pub inside : at < length (events_of v.cores c)
-  pub event : get_or (events_of v.cores c) at F ≡ S a w
-  pub first : (j : ℕ) → drained_of s c ≤ j → j < at → is_plain_store (get_or (events_of v.cores c) j F) ≡ false
-  pub is : t ≡ written v (with_drained s c (at + 1)) c at a w
+  pub store : Waiting
+  pub next : IsNextStore v s c store
+  pub is : t ≡ written v (with_drained s c (store.place + 1)) c store.place store.address store.value
 
 -- the oldest store of a list stands in it, and no other before it
 record IsOldest (l : List Event) (i : ℕ) (x : Waiting) : Type 0 where
@@ -95,6 +97,31 @@ oldest_found (e ∷ l) i x is = go e is (oldest_found l (suc i) x)
     go (R a r o w) is rest = later (R a r o w) refl (rest is)
     go (C a r o) is rest = later (C a r o) refl (rest is)
     go F is rest = later F refl (rest is)
+
+-- so with those that wait
+pub next_store : (v : Values) (s : Situation) (c : ℕ) (x : Waiting)
+    → oldest (drained_of s c) (waiting v.cores s c) ≡ Some x → IsNextStore v s c x
+next_store v s c x found =
+    let es : List Event = events_of v.cores c in
+    let old : IsOldest (waiting v.cores s c) (drained_of s c) x =
+    oldest_found (waiting v.cores s c) (drained_of s c) x found in
+    let d : ℕ = drained_of s c in
+    let k : ℕ = place_of s c in
+    let known : length (waiting v.cores s c) ≡ min k (length es) - d =
+    omega (arith, length-drop d (take k es), length-take k es) in
+    let to : d + old.at < k = omega (arith, old.inside, known) in
+    let here : d + old.at ≡ x.place = omega (arith, old.place) in
+    record {
+      from = omega (arith, old.place);
+      to = omega (arith, to, old.place);
+      inside = omega (arith, old.inside, known, old.place);
+      event = ap (λ (n : ℕ). get_or es n F) (sym here) ∙ (sym (between_at es d k old.at to) ∙ old.event);
+      first = λ j low less.
+          let apart : d + (j - d) ≡ j = omega (arith, low) in
+          ap (λ (n : ℕ). is_plain_store (get_or es n F)) (sym apart)
+          ∙ (ap is_plain_store (sym (between_at es d k (j - d) (omega (arith, low, less, to, old.place))))
+          ∙ old.first (j - d) (omega (arith, low, less, old.place)));
+    }
 
 module _ (v : Values) (s : Situation) (c : ℕ) (t : Situation) where
   abbrev own : List Event
@@ -145,27 +172,4 @@ module _ (v : Values) (s : Situation) (c : ℕ) (t : Situation) where
       go : (o : Option Waiting) → oldest (drained_of s c) (waiting v.cores s c) ≡ o → drained_by v s c o ≡ Some t
           → Drains v s c t
       go None none is = let clash : None ≡ Some t = is in absurd cc
-      go (Some x) found is =
-          let old : IsOldest (waiting v.cores s c) (drained_of s c) x =
-          oldest_found (waiting v.cores s c) (drained_of s c) x found in
-          let d : ℕ = drained_of s c in
-          let k : ℕ = place_of s c in
-          let known : length (waiting v.cores s c) ≡ min k (length own) - d =
-          omega (arith, length-drop d (take k own), length-take k own) in
-          let to : d + old.at < k = omega (arith, old.inside, known) in
-          let here : d + old.at ≡ x.place = omega (arith, old.place) in
-          record {
-            at = x.place;
-            a = x.address;
-            w = x.value;
-            from = omega (arith, old.place);
-            to = omega (arith, to, old.place);
-            inside = omega (arith, old.inside, known, old.place);
-            event = ap (λ (n : ℕ). get_or own n F) (sym here) ∙ (sym (between_at own d k old.at to) ∙ old.event);
-            first = λ j low less.
-                let apart : d + (j - d) ≡ j = omega (arith, low) in
-                ap (λ (n : ℕ). is_plain_store (get_or own n F)) (sym apart)
-                ∙ (ap is_plain_store (sym (between_at own d k (j - d) (omega (arith, low, less, to, old.place))))
-                ∙ old.first (j - d) (omega (arith, low, less, old.place)));
-            is = sym (same_Some _ t is);
-          }
+      go (Some x) found is = record { store = x; next = next_store v s c x found; is = sym (same_Some _ t is) }

@@ -71,7 +71,7 @@ rank_within v s h =
     )
 
 -- a core with an event is there
-core_there : (v : Values) (c j : ℕ) → j < length (events_of v.cores c) → c < length v.cores
+pub core_there : (v : Values) (c j : ℕ) → j < length (events_of v.cores c) → c < length v.cores
 core_there v c j inside = elim (cases_lt c (length v.cores)) [
   | inl there ↦ there
   | inr past ↦ absurd (omega (
@@ -99,30 +99,56 @@ pub record GoesOn (v : Values) (s t : Situation) : Type 0 where
   pub fit : IsFit v t
   pub more : rank s < rank t
 
+-- before free steps, too
+module _ (v : Values) (s : Situation) (c : ℕ) (h : IsFit v s) (a w k : ℕ) where
+  pub placed_fit : place_of s c < length (events_of v.cores c)
+      → IsFit v (with_value (with_place s c (place_of s c + 1)) a w k)
+  placed_fit inside =
+      let core : c < length v.cores = core_there v c (place_of s c) inside in
+      let at : c < length s.places = omega (arith, core, h.places) in record {
+        places = length-set s.places c (place_of s c + 1) ∙ h.places;
+        drained = h.drained;
+        low = λ d. omega (arith, h.low d, set_more s.places c (place_of s c + 1) d at (omega arith));
+        within = λ d. elim (cases_eq d c) [
+          | inl one ↦ omega (
+            arith,
+            get_or-set_same s.places c (place_of s c + 1) 0 at,
+            inside,
+            ap (place_of (with_place s c (place_of s c + 1))) one,
+            ap (λ (n : ℕ). length (events_of v.cores n)) one,
+          )
+          | inr apart ↦ omega (arith, get_or-set_other s.places c d (place_of s c + 1) 0 apart, h.within d)
+        ];
+      }
+
+  pub drained_fit : (j : ℕ) → j < place_of s c → j < length (events_of v.cores c)
+      → IsFit v (with_value (with_drained s c (j + 1)) a w k)
+  drained_fit j to inside =
+      let core : c < length v.cores = core_there v c j inside in
+      let at : c < length s.drained = omega (arith, core, h.drained) in record {
+        places = h.places;
+        drained = length-set s.drained c (j + 1) ∙ h.drained;
+        low = λ d. elim (cases_eq d c) [
+          | inl one ↦ omega (
+            arith,
+            get_or-set_same s.drained c (j + 1) 0 at,
+            to,
+            ap (drained_of (with_drained s c (j + 1))) one,
+            ap (place_of s) one,
+          )
+          | inr apart ↦ omega (arith, get_or-set_other s.drained c d (j + 1) 0 apart, h.low d)
+        ];
+        within = h.within;
+      }
+
 module _ (v : Values) (s t : Situation) (c : ℕ) (h : IsFit v s) where
   modifies_on : Modifies v s c t → GoesOn v s t
   modifies_on m =
       let k : ℕ = place_of s c in
-      let core : c < length v.cores = core_there v c k m.inside in
-      let at : c < length s.places = omega (arith, core, h.places) in
+      let at : c < length s.places = omega (arith, core_there v c k m.inside, h.places) in
       let u : Situation = with_value (with_place s c (k + 1)) m.a m.w (marked v (mark_of v c k)) in
       let own : place_of u c ≡ k + 1 = get_or-set_same s.places c (k + 1) 0 at in
-      let away : (d : ℕ) → d ≢ c → place_of u d ≡ place_of s d = λ d apart. get_or-set_other s.places c d (k + 1) 0 apart in
-      let fit : IsFit v u = record {
-        places = length-set s.places c (k + 1) ∙ h.places;
-        drained = h.drained;
-        low = λ d. omega (arith, h.low d, set_more s.places c (k + 1) d at (omega arith));
-        within = λ d. elim (cases_eq d c) [
-          | inl one ↦ omega (
-            arith,
-            own,
-            m.inside,
-            ap (place_of u) one,
-            ap (λ (n : ℕ). length (events_of v.cores n)) one,
-          )
-          | inr apart ↦ omega (arith, away d apart, h.within d)
-        ];
-      } in
+      let fit : IsFit v u = placed_fit v s c h m.a m.w (marked v (mark_of v c k)) m.inside in
       subst (GoesOn v s) (sym m.is) (record {
         fit = settled_fit v u fit;
         more =
@@ -135,27 +161,19 @@ module _ (v : Values) (s t : Situation) (c : ℕ) (h : IsFit v s) where
 
   drains_on : Drains v s c t → GoesOn v s t
   drains_on m =
-      let core : c < length v.cores = core_there v c m.at m.inside in
-      let at : c < length s.drained = omega (arith, core, h.drained) in
-      let u : Situation = with_value (with_drained s c (m.at + 1)) m.a m.w (marked v (mark_of v c m.at)) in
-      let own : drained_of u c ≡ m.at + 1 = get_or-set_same s.drained c (m.at + 1) 0 at in
-      let away : (d : ℕ) → d ≢ c → drained_of u d ≡ drained_of s d =
-      λ d apart. get_or-set_other s.drained c d (m.at + 1) 0 apart in
-      let fit : IsFit v u = record {
-        places = h.places;
-        drained = length-set s.drained c (m.at + 1) ∙ h.drained;
-        low = λ d. elim (cases_eq d c) [
-          | inl one ↦ omega (arith, own, m.to, ap (drained_of u) one, ap (place_of s) one)
-          | inr apart ↦ omega (arith, away d apart, h.low d)
-        ];
-        within = h.within;
-      } in
+      let j : ℕ = m.store.place in
+      let at : c < length s.drained = omega (arith, core_there v c j m.next.inside, h.drained) in
+      let u : Situation =
+      with_value (with_drained s c (j + 1)) m.store.address m.store.value (marked v (mark_of v c j)) in
+      let own : drained_of u c ≡ j + 1 = get_or-set_same s.drained c (j + 1) 0 at in
+      let fit : IsFit v u =
+      drained_fit v s c h m.store.address m.store.value (marked v (mark_of v c j)) j m.next.to m.next.inside in
       subst (GoesOn v s) (sym m.is) (record {
         fit = settled_fit v u fit;
         more =
             let less : sum s.drained < sum (settled v u).drained =
-            sum_less s.drained (lists.set s.drained c (m.at + 1)) c (sym (length-set s.drained c (m.at + 1)))
-            (λ d. set_more s.drained c (m.at + 1) d at (omega (arith, m.from))) at (omega (arith, own, m.from)) in
+            sum_less s.drained (lists.set s.drained c (j + 1)) c (sym (length-set s.drained c (j + 1)))
+            (λ d. set_more s.drained c (j + 1) d at (omega (arith, m.next.from))) at (omega (arith, own, m.next.from)) in
             let le : sum s.places ≤ sum (settled v u).places =
             sum_le s.places (settled v u).places (h.places ∙ sym (settled_fit v u fit).places)
             (λ d. (settles v u fit d).from) in

@@ -46,7 +46,7 @@ event_same p q rest from =
     ∙ (ap (λ (o : Option ℕ). resourced (unsourced q) o) from ∙ resourced_same q))
 
 -- what does not read has no source
-no_source : (ev : Event) → read_address ev ≡ None → source ev ≡ None
+pub no_source : (ev : Event) → read_address ev ≡ None → source ev ≡ None
 no_source (L a r o) h = absurd cc
 no_source (S a w) h = refl
 no_source (R a r o w) h = absurd cc

@@ -1,0 +1,1 @@
+use Rattle.completion.proofs.room.has_reads.Goals as goal

@@ -1,0 +1,22 @@
+use Rattle.std.proofs.Common.{◌≡◌, ◌∙◌, Some, sym, subst}
+use Rattle.std.proofs.lemmas.Option.{same_Some}
+use Rattle.completion.specs.Performed.{IsTrail}
+use Rattle.completion.specs.Situation.{Situation, drained_of, place_of}
+use Rattle.completion.proofs.trail.take_turn.Goals as goal
+
+pub execute_all-requires-clause-settles : goal.execute_all-requires-clause-settles
+execute_all-requires-clause-settles c =
+    (c.in_ok-turn.ensures c.in-Some.after (sym c.in_ok-after.ensures ∙ c.in-Some.is)).0
+
+pub execute_all-requires-clause-trail : goal.execute_all-requires-clause-trail
+execute_all-requires-clause-trail c =
+    (c.in_ok-turn.ensures c.in-Some.after (sym c.in_ok-after.ensures ∙ c.in-Some.is)).1
+
+pub returns : goal.returns
+returns c s is =
+    let same : c.in-Some.after ≡ s =
+    same_Some c.in-Some.after s (sym c.in-Some.is ∙ (c.in_ok-after.ensures ∙ is)) in (
+      same,
+      subst (λ (z : Situation). IsTrail c.args.values.now c.execute_all.new.trail.order.items
+          c.execute_all.new.trail.sources.items (place_of z) (drained_of z) z.memory) same c.in_ok-execute_all.ensures,
+    )
