@@ -1,7 +1,7 @@
 -- One more event is performed.
-use Rattle.std.proofs.Common.{◌≡◌, ◌<◌, ◌≤◌, ◌+◌, ◌∙◌, ◌⊎◌, inl, inr, ℕ, Option, Some, None, List, [], ◌∷◌, ◌++◌, length, get_or}
+use Rattle.std.proofs.Common.{◌≡◌, ◌<◌, ◌∙◌, ◌⊎◌, inl, inr, ℕ, Option, None, List, [], ◌∷◌, ◌++◌, get_or}
 use Rattle.std.proofs.Common.{slice_set, arith, refl, sym, ap, subst, length-set, get_or-set_same, get_or-set_other}
-use Rattle.std.proofs.lemmas.Bool.{cases_eq, cases_lt}
+use Rattle.std.proofs.lemmas.Bool.{cases_eq}
 use Rattle.recording.specs.Execution.{event_count, Kept, Reads}
 use Rattle.recording.specs.Order.{Before, times}
 use Rattle.recording.specs.OrderLaws.{before_in_left, left_before_right, times_append, times_here, times_nil, times_there}

@@ -1,6 +1,6 @@
 -- Where ways begin and end.
-use Rattle.std.proofs.Common.{◌≡◌, ◌<◌, ◌≤◌, ◌+◌, ◌-◌, ◌∙◌, inl, inr, ℕ, zero, suc, Option, Some, None, List, [], ◌∷◌, length, get_or, drop}
-use Rattle.std.proofs.Common.{replicate, slice_get, slice_index, option_and_then, arith, refl, sym, ap, subst}
+use Rattle.std.proofs.Common.{◌≡◌, ◌<◌, ◌≤◌, ◌+◌, ◌-◌, ◌∙◌, ℕ, Option, Some, None, List, [], length, get_or, drop}
+use Rattle.std.proofs.Common.{option_and_then, arith, refl, sym, ap, subst}
 use Rattle.std.proofs.lemmas.List.{get_or_past, get_or-replicate, length-replicate, drop_all, drop_more}
 use Rattle.std.proofs.lemmas.Option.{same_Some, slice_get_past}
 use Rattle.recording.specs.Execution.{event_count}
@@ -10,9 +10,9 @@ use Rattle.values.specs.Final.{value_by}
 use Rattle.values.specs.Refused.{events_alone}
 use Rattle.values.specs.Values.{Values}
 use Rattle.completion.specs.declared.moves.Turn.{Turn}
-use Rattle.completion.specs.Performed.{IsTrail, LeadsToEnd, Settles, last_of, writers}
-use Rattle.completion.specs.Reachable.{Leads, further, after_moves}
-use Rattle.completion.specs.Situation.{Situation, beginning, drained_of, mark, marked, moved, number_of, place_of, IsEnd}
+use Rattle.completion.specs.Performed.{IsTrail, Settles, last_of, writers}
+use Rattle.completion.specs.Reachable.{after_moves}
+use Rattle.completion.specs.Situation.{Situation, beginning, drained_of, mark, marked, moved, number_of, place_of}
 use Rattle.completion.proofs.Places.{blank, blank_fit, zero_at}
 use Rattle.completion.proofs.Turned.{settles_from}
 

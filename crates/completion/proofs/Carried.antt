@@ -1,6 +1,6 @@
 -- What cores and memory do next is right.
 use Rattle.std.proofs.Common.{◌≡◌, ◌≢◌, ◌<◌, ◌≤◌, ◌+◌, ◌-◌, ◌^◌, ◌==◌, ◌&&◌, ◌⊎◌, ◌↔◌, ◌∙◌, inl, inr, ℕ, Bool, true, false, cond, not}
-use Rattle.std.proofs.Common.{Option, Some, None, List, [], ◌∷◌, ◌++◌, length, get_or, slice_index, slice_set, min, arith, refl, sym}
+use Rattle.std.proofs.Common.{Option, Some, None, List, [], ◌∷◌, ◌++◌, length, get_or, slice_index, slice_set, arith, refl, sym}
 use Rattle.std.proofs.Common.{ap, subst, length-set, get_or-set_same, get_or-set_other}
 use Rattle.std.specs.List.{list_any}
 use Rattle.std.proofs.lemmas.Bool.{and_parts, cases_eq, cases_lt, eqb-true}
@@ -15,7 +15,7 @@ use Rattle.recording.specs.Tso.{Gives}
 use Rattle.values.specs.Final.{value_by}
 use Rattle.values.specs.Refused.{events_alone}
 use Rattle.values.specs.Values.{Values, known_source}
-use Rattle.completion.specs.Performed.{ArePerformed, HaveComeTo, IsSourceAfter, IsTrail, last_of, order_after, source_found}
+use Rattle.completion.specs.Performed.{IsSourceAfter, IsTrail, last_of, order_after, source_found}
 use Rattle.completion.specs.Performed.{sources_after, writers}
 use Rattle.completion.specs.Search.{event_of}
 use Rattle.completion.specs.Situation.{Memory, between, events_of, forwarded, has_mark, is_free, is_free_at, mark, mark_of, mark_read}
@@ -23,7 +23,7 @@ use Rattle.completion.specs.Situation.{marked, may_read, none_waits, number_of, 
 use Rattle.completion.proofs.Appended.{appended, in_more, last_in, still_in}
 use Rattle.completion.proofs.Covers.{write_cases}
 use Rattle.completion.proofs.Lists.{IsYoungest, HasNone, between_at, forwarded_cases, length_between, youngest_is, youngest_none}
-use Rattle.completion.proofs.Numbered.{core_here, earlier, event_here, inside_here, one_place, order_here}
+use Rattle.completion.proofs.Numbered.{earlier, event_here, inside_here, one_place, order_here}
 use Rattle.completion.proofs.OrderLists.{last_push, last_some, there_writer, writers_more, writers_once, writers_same}
 
 -- where no store waits, none stands

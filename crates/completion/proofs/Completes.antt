@@ -1,17 +1,17 @@
 -- What turns that lead to the end perform completes the values.
-use Rattle.std.proofs.Common.{◌≡◌, ◌≢◌, ◌<◌, ◌≤◌, ◌+◌, ◌-◌, ◌&&◌, ◌∙◌, ◌⊎◌, inl, inr, ℕ, zero, suc, Bool, true, false, Option, Some, None, List}
-use Rattle.std.proofs.Common.{[], ◌∷◌, map, length, get_or, slice_get, slice_index, arith, refl, sym, ap, subst}
-use Rattle.std.proofs.lemmas.Bool.{cases_eq, cases_lt}
+use Rattle.std.proofs.Common.{◌≡◌, ◌<◌, ◌≤◌, ◌+◌, ◌-◌, ◌∙◌, ◌⊎◌, inl, inr, ℕ, zero, suc, Bool, true, false, Option, Some, None, List}
+use Rattle.std.proofs.Common.{[], ◌∷◌, map, length, get_or, arith, refl, sym, ap, subst}
+use Rattle.std.proofs.lemmas.Bool.{cases_lt}
 use Rattle.std.proofs.lemmas.List.{get_or_past, length-map}
 use Rattle.std.proofs.lemmas.Option.{slice_get-get_or}
 use Rattle.recording.specs.declared.event.Event.{Event}
 use Rattle.recording.specs.declared.event.Event.TheVariants.{L, S, R, C, F}
-use Rattle.recording.specs.Event.{is_plain_load, is_plain_store, read_address, source, value_read, value_written}
+use Rattle.recording.specs.Event.{is_plain_load, is_plain_store, read_address, value_read}
 use Rattle.recording.specs.EventLaws.{Reads-event, Writes-event}
-use Rattle.recording.specs.Execution.{Execution, event_at, event_count, initial_value, source_of, write_list, Kept, ProgramOrder}
+use Rattle.recording.specs.Execution.{Execution, event_at, event_count, source_of, write_list, Kept}
 use Rattle.recording.specs.Execution.{Reads, Writes}
 use Rattle.recording.specs.Order.{Before, place, times, Enumerates}
-use Rattle.recording.specs.OrderLaws.{place_in, place_nil, times_nil, times_in, place_within}
+use Rattle.recording.specs.OrderLaws.{place_in, times_nil, place_within}
 use Rattle.recording.specs.Recording.{IsShortRecording}
 use Rattle.recording.specs.Tso.{Gives, IsLastVisible, IsTsoOrder, IsWellFormed, Visible}
 use Rattle.values.specs.Final.{final_value, value_by}
@@ -20,11 +20,11 @@ use Rattle.values.specs.Refused.{events_alone}
 use Rattle.values.specs.Values.{IsCompletion, Values, known_final, known_source, unsourced}
 use Rattle.completion.specs.Performed.{HaveRoom, IsLastInMemory, IsOwnStore, IsSourceAfter, IsTrail, last_of, until, writers}
 use Rattle.completion.specs.Search.{event_of}
-use Rattle.completion.specs.Situation.{Situation, between, drained_of, events_of, number_of, oldest, place_of, waiting, IsEnd}
-use Rattle.completion.proofs.Alone.{count_with, event_with, kept_with, order_with, reads_with, value_with, with_kept, with_order}
+use Rattle.completion.specs.Situation.{Situation, drained_of, events_of, number_of, oldest, place_of, waiting, IsEnd}
+use Rattle.completion.proofs.Alone.{count_with, order_with, reads_with, value_with, with_kept, with_order}
 use Rattle.completion.proofs.Alone.{with_reads, with_writes, writes_with, written_with}
 use Rattle.completion.proofs.Lists.{between_at, length_between}
-use Rattle.completion.proofs.Numbered.{event_here, found}
+use Rattle.completion.proofs.Numbered.{found}
 use Rattle.completion.proofs.OrderLists.{before_until, front_before, front_in, front_times, last_none, last_some, there_writer}
 use Rattle.completion.proofs.OrderLists.{until_before, writer_there, writers_before, writers_once}
 use Rattle.completion.proofs.Reading.{second_kept}

@@ -1,15 +1,15 @@
 -- Dead situations are a closed list.
-use Rattle.std.proofs.Common.{◌≡◌, ◌<◌, ◌+◌, ◌⊎◌, ◌∙◌, inl, inr, ℕ, zero, suc, Bool, true, false, Some, None, List, [], ◌∷◌}
+use Rattle.std.proofs.Common.{◌≡◌, ◌<◌, ◌⊎◌, ◌∙◌, inl, inr, ℕ, zero, suc, Bool, true, false, Some, None, List, [], ◌∷◌}
 use Rattle.std.proofs.Common.{length, get_or, slice_get, arith, refl, sym, ap, subst}
-use Rattle.std.specs.List.{All, Contains}
+use Rattle.std.specs.List.{Contains}
 use Rattle.std.proofs.lemmas.List.Elements.{All-contains, Contains-append_right}
-use Rattle.std.proofs.lemmas.Option.{same_Some, slice_get-get_or, slice_get_within, get_or_from_slice_get}
+use Rattle.std.proofs.lemmas.Option.{same_Some, slice_get_within, get_or_from_slice_get}
 use Rattle.completion.specs.declared.moves.Move.{Move}
 use Rattle.completion.specs.declared.seen.Seen.{Seen}
 use Rattle.values.specs.Values.{Values, AreAllowed}
-use Rattle.completion.specs.Situation.{Situation, moved, beginning, IsEnd}
-use Rattle.completion.specs.Search.{IsEarly, IsHopeless, HasMove, HasNext, AreClosed, EveryCompletionIsReached}
-use Rattle.completion.specs.Seen.{HasNumber, IsDead, IsVain, AreSearched}
+use Rattle.completion.specs.Situation.{Situation, beginning, IsEnd}
+use Rattle.completion.specs.Search.{IsEarly, IsHopeless, HasMove, HasNext, EveryCompletionIsReached}
+use Rattle.completion.specs.Seen.{IsDead, IsVain, AreSearched}
 
 -- those of a list that are marked
 pub marked_of : List Situation → List Bool → List Situation

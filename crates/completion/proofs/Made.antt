@@ -1,16 +1,16 @@
 -- Recordings of what was performed, and room for them.
-use Rattle.std.proofs.Common.{◌≡◌, ◌<◌, ◌≤◌, ◌+◌, ◌-◌, ◌^◌, ◌⊎◌, ◌∙◌, inl, inr, ℕ, Option, Some, None, List, [], map, length, get_or, arith}
-use Rattle.std.proofs.Common.{refl, sym, ap, subst}
+use Rattle.std.proofs.Common.{◌≡◌, ◌<◌, ◌+◌, ◌-◌, ◌^◌, ◌⊎◌, ◌∙◌, inl, inr, ℕ, Option, Some, None, List, [], map, length, get_or, arith}
+use Rattle.std.proofs.Common.{sym, ap, subst}
 use Rattle.std.proofs.Math.ListN as lists
 use Rattle.std.proofs.lemmas.List.{length-map}
 use Rattle.recording.specs.declared.event.Event.{Event}
 use Rattle.recording.specs.declared.event.Event.TheVariants.{F}
 use Rattle.recording.specs.Event.{read_address, source}
 use Rattle.recording.specs.EventLaws.{Reads-event, source-Reads}
-use Rattle.recording.specs.Execution.{Execution, event_at, event_count, placed_from, source_of, write_list, Reads, Writes}
+use Rattle.recording.specs.Execution.{Execution, event_at, placed_from, source_of, write_list, Reads, Writes}
 use Rattle.recording.specs.PlacedLaws.{placed_at}
 use Rattle.values.specs.Refused.{events_alone}
-use Rattle.values.specs.Values.{IsCompletion, Values, unsourced, known_source, AreAllowed}
+use Rattle.values.specs.Values.{IsCompletion, Values, unsourced, AreAllowed}
 use Rattle.completion.specs.Performed.{AreSourced, HaveRoom, LeadsToEnd, writers}
 use Rattle.completion.specs.Situation.{events_of, number_of}
 use Rattle.completion.proofs.Alone.{count_alone, count_with, reads_alone, with_reads, writes_alone}

@@ -1,11 +1,8 @@
 -- Events of values by their cores and places, and by their numbers.
-use Rattle.std.proofs.Common.{◌≡◌, ◌<◌, ◌+◌, ◌&&◌, ◌∙◌, inl, inr, ℕ, Bool, true, false, length, get_or, arith, sym, ap, subst}
-use Rattle.std.specs.List.{sum}
-use Rattle.std.proofs.lemmas.Bool.{cases_lt}
+use Rattle.std.proofs.Common.{◌≡◌, ◌<◌, ◌+◌, ◌∙◌, ℕ, length, get_or, arith, sym, ap}
 use Rattle.recording.specs.declared.event.Event.{Event}
 use Rattle.recording.specs.declared.event.Event.TheVariants.{F}
-use Rattle.recording.specs.Event.{is_plain_load, is_plain_store}
-use Rattle.recording.specs.Execution.{core_of, event_at, event_count, placed_from, Kept, ProgramOrder}
+use Rattle.recording.specs.Execution.{core_of, event_at, event_count, placed_from, ProgramOrder}
 use Rattle.recording.specs.PlacedLaws.{placed_at, located}
 use Rattle.values.specs.Refused.{events_alone}
 use Rattle.values.specs.Values.{Values}

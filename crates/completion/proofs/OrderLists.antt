@@ -1,16 +1,16 @@
 -- Lists of events to which one more is added, and the writes among them.
-use Rattle.std.proofs.Common.{◌≡◌, ◌≢◌, ◌<◌, ◌≤◌, ◌+◌, ◌-◌, ◌==◌, ◌⊎◌, ◌∙◌, inl, inr, ℕ, zero, suc, Bool, true, false, cond}
-use Rattle.std.proofs.Common.{Option, Some, None, List, [], ◌∷◌, ◌++◌, length, get_or, take, drop, slice_get, arith, refl, sym, ap, subst}
+use Rattle.std.proofs.Common.{◌≡◌, ◌≢◌, ◌<◌, ◌≤◌, ◌+◌, ◌-◌, ◌⊎◌, ◌∙◌, inl, inr, ℕ, zero, suc, Bool, true, false, cond}
+use Rattle.std.proofs.Common.{Option, Some, None, List, [], ◌∷◌, ◌++◌, length, get_or, take, drop, arith, refl, sym, ap, subst}
 use Rattle.std.proofs.Common.{length-append}
 use Rattle.std.specs.List.{filter}
-use Rattle.std.proofs.lemmas.Bool.{cases_eq, cases_lt, eq-eqb, eqb-true, ne_eqb}
+use Rattle.std.proofs.lemmas.Bool.{cases_eq, cases_lt, eq-eqb, eqb-true}
 use Rattle.std.proofs.lemmas.List.{append-nil, get_or_push, take-append-drop, take-append-le, take_all, take_more}
 use Rattle.std.proofs.lemmas.List.Elements.{filter-append}
 use Rattle.std.proofs.lemmas.Option.{slice_get-get_or, slice_get_past, same_Some}
 use Rattle.recording.specs.Event.{written_address}
 use Rattle.recording.specs.Execution.{event_at, Writes}
 use Rattle.recording.specs.Order.{place, times, Before}
-use Rattle.recording.specs.OrderLaws.{times_here, times_there, times_nil, times_append, place_here, place_there, place_nil}
+use Rattle.recording.specs.OrderLaws.{times_here, times_there, times_nil, times_append, place_here, place_there}
 use Rattle.recording.specs.OrderLaws.{place_in, times_in, place_one, place_within, place_append_left, place_append_right, before_in_left}
 use Rattle.recording.specs.PlaceLaws.{times_at, place_at}
 use Rattle.values.specs.Refused.{events_alone}

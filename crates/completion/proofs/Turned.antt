@@ -1,13 +1,12 @@
 -- What a turn performs is right.
-use Rattle.std.proofs.Common.{◌≡◌, ◌≢◌, ◌<◌, ◌≤◌, ◌+◌, ◌^◌, ◌∙◌, ℕ, true, Option, Some, None, List, [], ◌∷◌, ◌++◌, length, slice_set, arith}
-use Rattle.std.proofs.Common.{refl, sym, ap, subst, get_or-set_same, get_or-set_other}
-use Rattle.recording.specs.declared.event.Event.{Event}
+use Rattle.std.proofs.Common.{◌≡◌, ◌<◌, ◌+◌, ◌^◌, ℕ, Option, None, List, [], ◌∷◌, ◌++◌, length, slice_set, arith}
+use Rattle.std.proofs.Common.{refl, sym, subst, get_or-set_same, get_or-set_other}
 use Rattle.recording.specs.Execution.{event_count}
 use Rattle.values.specs.Refused.{events_alone}
 use Rattle.values.specs.Values.{Values}
 use Rattle.completion.specs.declared.moves.Waiting.{Waiting}
 use Rattle.completion.specs.Performed.{HaveRoom, IsTrail, Settles, last_of, writers}
-use Rattle.completion.specs.Situation.{Situation, drained_of, events_of, mark_of, marked, number_of, place_of, settled, with_drained}
+use Rattle.completion.specs.Situation.{Situation, drained_of, mark_of, marked, number_of, place_of, settled, with_drained}
 use Rattle.completion.specs.Situation.{with_place, with_value, written}
 use Rattle.completion.proofs.Carried.{drain_on, past_modify}
 use Rattle.completion.proofs.Moved.{IsNextStore, Modifies}

@@ -1,4 +1,4 @@
-use Rattle.std.proofs.Common.{◌≡◌, ◌∙◌, ℕ, List, Option, Vec, Global, map, length, ap, sym, subst}
+use Rattle.std.proofs.Common.{◌∙◌, ℕ, Vec, Global, map, sym, subst}
 use Rattle.std.proofs.lemmas.List.{length-map}
 use Rattle.recording.specs.declared.event.Event.{Event}
 use Rattle.recording.specs.declared.size.RecordingSize.TheVariants.{Short}

@@ -1,6 +1,6 @@
 use Rattle.std.proofs.Common.{map, arith}
 use Rattle.completion.specs.Seen.{turn_of}
-use Rattle.completion.specs.declared.moves.Move.TheVariants.{Modify, Drain}
+use Rattle.completion.specs.declared.moves.Move.TheVariants.{Modify}
 use Rattle.completion.specs.declared.ranking.Choice.{Choice}
 use Rattle.completion.proofs.Vain.{last_taken}
 use Rattle.completion.proofs.ranking.moves_of.Goals as goal

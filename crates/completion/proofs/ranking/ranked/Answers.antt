@@ -1,6 +1,5 @@
-use Rattle.std.proofs.Common.{List, map, ap, sym, subst}
+use Rattle.std.proofs.Common.{List, map, sym, subst}
 use Rattle.std.specs.List.{Contains}
-use Rattle.completion.specs.declared.moves.Turn.{Turn}
 use Rattle.completion.specs.declared.ranking.Choice.{Choice}
 use Rattle.completion.proofs.Vain.{taken_more}
 use Rattle.completion.proofs.ranking.ranked.Goals as goal

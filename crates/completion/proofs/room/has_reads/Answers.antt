@@ -1,1 +1,0 @@
-use Rattle.completion.proofs.room.has_reads.Goals as goal

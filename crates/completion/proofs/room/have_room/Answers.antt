@@ -1,5 +1,4 @@
-use Rattle.std.proofs.Common.{◌≡◌, ◌≤◌, false, true, ℕ, List, length, arith, sym, ap}
-use Rattle.completion.specs.Performed.{HaveRoom}
+use Rattle.std.proofs.Common.{◌≡◌, false, true, ℕ, List, length, arith, ap}
 use Rattle.completion.proofs.Alone.{table_size}
 use Rattle.completion.proofs.room.have_room.Goals as goal
 

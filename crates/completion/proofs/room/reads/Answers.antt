@@ -1,4 +1,4 @@
-use Rattle.std.proofs.Common.{◌≡◌, ◌<◌, ◌∙◌, ℕ, false, true, Some, None, arith, refl, sym, ap}
+use Rattle.std.proofs.Common.{◌≡◌, ◌∙◌, false, true, Some, None, arith, refl, sym, ap}
 use Rattle.recording.specs.Event.{read_address}
 use Rattle.recording.specs.EventLaws.{Reads-event}
 use Rattle.values.specs.Refused.{events_alone}

@@ -1,14 +1,12 @@
-use Rattle.std.proofs.Common.{◌≡◌, ◌<◌, ◌+◌, ◌-◌, ◌++◌, ◌∷◌, [], ◌∙◌, inl, inr, ℕ, Some, List, length, get_or, slice_get, vec_len, arith, ap, sym, subst, refl}
-use Rattle.std.specs.List.{Contains}
+use Rattle.std.proofs.Common.{◌≡◌, ◌<◌, ◌+◌, ◌-◌, ◌∙◌, inl, inr, ℕ, Some, List, length, get_or, vec_len, arith, ap, sym, subst}
 use Rattle.std.proofs.lemmas.Bool.{cases_eq}
 use Rattle.std.proofs.lemmas.List.{get_or_default}
 use Rattle.values.specs.Values.{Values}
 use Rattle.std.proofs.lemmas.Option.{same_Some, slice_get-get_or, slice_get_within}
-use Rattle.completion.specs.declared.moves.Move.{Move}
 use Rattle.completion.specs.declared.moves.Turn.{Turn}
 use Rattle.completion.specs.declared.seen.Seen.{Seen}
 use Rattle.completion.specs.Seen.{Grows, HasNumber, IsTaken, IsVain}
-use Rattle.completion.specs.Situation.{Situation, beginning, moved}
+use Rattle.completion.specs.Situation.{Situation, beginning}
 use Rattle.completion.proofs.Rank.{rank, most_rank}
 use Rattle.completion.proofs.Vain.{all_vain, buried_dead, buried_grows, buried_searched, grows_on, popped, step_comes, step_falls, vain_still}
 use Rattle.completion.proofs.search.+explore.Goals as goal

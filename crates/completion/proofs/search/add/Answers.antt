@@ -1,8 +1,8 @@
-use Rattle.std.proofs.Common.{◌≡◌, ◌<◌, ◌≤◌, ◌++◌, ◌∷◌, [], ◌∙◌, ℕ, true, false, List, Some, length, ap, sym, subst}
+use Rattle.std.proofs.Common.{◌≡◌, ◌≤◌, ◌∙◌, ℕ, true, false, List, length, ap, sym, subst}
 use Rattle.completion.specs.declared.moves.Turn.{Turn}
-use Rattle.completion.specs.Reachable.{Leads, after_moves}
+use Rattle.completion.specs.Reachable.{after_moves}
 use Rattle.completion.specs.Seen.{HasNumber}
-use Rattle.completion.specs.Situation.{Situation, beginning, IsEnd}
+use Rattle.completion.specs.Situation.{beginning}
 use Rattle.completion.proofs.Vain.{way_on, led_to, one_too_many, added_grows, added_searched, added_number}
 use Rattle.completion.proofs.search.add.Goals as goal
 

@@ -1,7 +1,7 @@
-use Rattle.std.proofs.Common.{◌≡◌, ◌∙◌, ℕ, true, false, length, arith, ap, sym, subst}
+use Rattle.std.proofs.Common.{◌≡◌, true, false, arith, sym, subst}
 use Rattle.completion.specs.Reachable.{Leads, here}
 use Rattle.completion.specs.Search.{IsHopeless}
-use Rattle.completion.specs.Situation.{Situation, beginning, IsEnd}
+use Rattle.completion.specs.Situation.{beginning, IsEnd}
 use Rattle.completion.proofs.DeadRows.{beginning_hopeless}
 use Rattle.completion.proofs.Vain.{added_searched, none_known, none_searched, one_too_many}
 use Rattle.completion.proofs.search.search.Goals as goal

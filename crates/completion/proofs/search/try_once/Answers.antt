@@ -1,4 +1,3 @@
-use Rattle.std.proofs.Common.{◌≡◌}
 use Rattle.completion.specs.Situation.{beginning}
 use Rattle.completion.proofs.DeadRows.{beginning_dead}
 use Rattle.completion.proofs.search.try_once.Goals as goal

@@ -1,4 +1,4 @@
-use Rattle.std.proofs.Common.{◌≡◌, ◌+◌, ◌++◌, ◌∷◌, [], ◌∙◌, ℕ, List, map, drop, length, length-append, arith, sym, ap, subst}
+use Rattle.std.proofs.Common.{◌≡◌, ◌+◌, ◌++◌, ◌∷◌, [], List, map, drop, length, length-append, arith, sym, subst}
 use Rattle.recording.specs.declared.event.Event.{Event}
 use Rattle.values.specs.Values.{unsourced}
 use Rattle.completion.specs.Performed.{AreSourced}

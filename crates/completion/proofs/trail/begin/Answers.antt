@@ -1,4 +1,4 @@
-use Rattle.std.proofs.Common.{◌≡◌, ◌∙◌, [], List, ap, arith}
+use Rattle.std.proofs.Common.{◌∙◌, ap, arith}
 use Rattle.completion.specs.Situation.{Situation}
 use Rattle.completion.proofs.Alone.{table_size}
 use Rattle.completion.proofs.Begun.{begun_settles, begun_trail}

@@ -2,7 +2,7 @@ use Rattle.std.proofs.Common.{◌≡◌, ◌+◌, ◌++◌, ◌∷◌, [], ◌�
 use Rattle.std.proofs.lemmas.Option.{same_Some}
 use Rattle.recording.specs.declared.event.Event.{Event}
 use Rattle.completion.specs.declared.moves.Waiting.{Waiting}
-use Rattle.completion.specs.Performed.{IsTrail, Settles}
+use Rattle.completion.specs.Performed.{IsTrail}
 use Rattle.completion.specs.Situation.{beginning, between, drained_by, drained_of, events_of, number_of, oldest, place_of, waiting, with_drained}
 use Rattle.completion.specs.Situation.{written}
 use Rattle.completion.proofs.Moved.{next_store}

@@ -1,5 +1,5 @@
-use Rattle.std.proofs.Common.{◌≡◌, ◌≤◌, ◌+◌, arith}
-use Rattle.completion.specs.Performed.{IsTrail, going}
+use Rattle.std.proofs.Common.{◌+◌, arith}
+use Rattle.completion.specs.Performed.{going}
 use Rattle.completion.specs.Situation.{drained_of, place_of}
 use Rattle.completion.proofs.Going.{all_gone, next_goes, none_gone, trail_at}
 use Rattle.completion.proofs.trail.execute_all.Goals as goal

@@ -1,10 +1,9 @@
-use Rattle.std.proofs.Common.{◌≡◌, ◌<◌, ◌≤◌, ◌+◌, ◌∙◌, inl, inr, ℕ, List, Option, length, arith, ap, sym, subst}
-use Rattle.std.proofs.lemmas.Bool.{cases_eq}
+use Rattle.std.proofs.Common.{◌≡◌, ◌<◌, ◌≤◌, ◌+◌, ℕ, List, Option, length, arith, sym, subst}
 use Rattle.completion.specs.Performed.{IsTrail, going, order_after}
 use Rattle.completion.specs.Search.{event_of}
 use Rattle.completion.specs.Situation.{drained_of, events_of, place_of}
 use Rattle.completion.proofs.Carried.{past_free_event}
-use Rattle.completion.proofs.Going.{going_away, going_here, trail_at}
+use Rattle.completion.proofs.Going.{going_away, going_here}
 use Rattle.completion.proofs.trail.execute_core.Goals as goal
 
 pub loop-place-preserved : goal.loop-place-preserved

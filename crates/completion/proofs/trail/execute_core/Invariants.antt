@@ -1,4 +1,3 @@
-use Rattle.std.proofs.Common.{◌≡◌}
 use Rattle.completion.specs.Performed.{IsTrail, going}
 use Rattle.completion.specs.Situation.{drained_of}
 use Rattle.completion.proofs.trail.execute_core.Given as goal

@@ -1,4 +1,4 @@
-use Rattle.std.proofs.Common.{◌≡◌, ◌+◌, ◌∙◌, ℕ, Some, List, get_or, drop, refl, ap, sym, subst}
+use Rattle.std.proofs.Common.{◌≡◌, ◌+◌, ◌∙◌, ℕ, List, drop, ap, sym, subst}
 use Rattle.completion.specs.declared.moves.Turn.{Turn}
 use Rattle.completion.specs.Performed.{IsTrail}
 use Rattle.completion.specs.Reachable.{Leads, here, further, after_moves}

@@ -1,4 +1,4 @@
-use Rattle.std.proofs.Common.{◌≡◌, ◌∙◌, ℕ, List, Option, Some, None, arith, sym, ap}
+use Rattle.std.proofs.Common.{◌≡◌, ◌∙◌, ℕ, List, Some, None, arith, sym, ap}
 use Rattle.recording.specs.declared.event.Event.{Event}
 use Rattle.completion.specs.Situation.{between, drained_of, events_of, youngest}
 use Rattle.completion.proofs.Lists.{youngest_within}

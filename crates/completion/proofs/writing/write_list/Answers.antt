@@ -1,4 +1,4 @@
-use Rattle.std.proofs.Common.{◌≡◌, ◌<◌, ◌∙◌, ◌++◌, ◌∷◌, [], get_or, ℕ, List, length, take, arith, ap, sym}
+use Rattle.std.proofs.Common.{◌∙◌, ◌++◌, ◌∷◌, [], get_or, ℕ, List, arith, ap, sym}
 use Rattle.std.proofs.lemmas.List.{take_all}
 use Rattle.recording.specs.PlaceLaws.{times_at}
 use Rattle.completion.specs.Performed.{writers}
