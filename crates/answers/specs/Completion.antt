@@ -5,6 +5,7 @@ use Rattle.recorder.specs.Text.{recording_text}
 use Rattle.values.specs.Values.{AreAllowed, IsCompletion, Values}
 use Rattle.completion.specs.declared.cause.Link.{Link}
 use Rattle.completion.specs.Circle.{IsCircle}
+use Rattle.completion.specs.Reachable.{HasMore}
 use Rattle.verdicts.specs.declared.printed.Answer.{Answer}
 use Rattle.verdicts.specs.declared.outcome.Outcome.TheVariants.{Ordered, Unfinished, Violation}
 use Rattle.answers.specs.Circles.{circle_text}
@@ -31,7 +32,11 @@ pub record IsImpossible (v : Values) (answer : Answer) : Type 0 where
   pub part : MayShowPart v shown
   pub said : IsText Violation ((codes "impossible" ++ 10 ∷ circle_text circle) ++ shown) answer
 
--- a recording that completes the values, or that there is none, or `unfinished`, of which nothing is said
-abbrev pub IsCompletionAnswer : Values → Answer → Type 0
-IsCompletionAnswer v answer = IsCompleted v answer ⊎ IsImpossible v answer
-    ⊎ IsText Unfinished (codes "unfinished" ++ 10 ∷ []) answer
+-- moves lead to more states than may be seen, and nothing is said but that
+pub record IsUncompleted (v : Values) (states : ℕ) (answer : Answer) : Type 0 where
+  pub more : HasMore v states
+  pub said : IsText Unfinished (codes "unfinished" ++ 10 ∷ []) answer
+
+-- a recording that completes the values, or that there is none, or that there are more states than may be seen
+abbrev pub IsCompletionAnswer : Values → ℕ → Answer → Type 0
+IsCompletionAnswer v states answer = IsCompleted v answer ⊎ IsImpossible v answer ⊎ IsUncompleted v states answer

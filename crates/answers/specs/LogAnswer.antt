@@ -10,12 +10,12 @@ use Rattle.answers.specs.Outcomes.{IsByOutcomes, IsText, log_outcome}
 use Rattle.answers.specs.Why.{IsWhyAsked}
 
 -- the report on what a log says, by all outcomes of a program, and perhaps why the first line is forbidden
-pub record IsLogReport (p : Parts) (lines : List Seen) (details : LogDetails) (os : List Outcome) (answer : Answer)
-    : Type 0 where
+pub record IsLogReport (p : Parts) (states : ℕ) (lines : List Seen) (details : LogDetails) (os : List Outcome)
+    (answer : Answer) : Type 0 where
   pub why : List ℕ
-  pub is_why : IsWhyAsked details.why p os lines why
+  pub is_why : IsWhyAsked details.why states p os lines why
   pub said : IsText (log_outcome (forbidden_count os lines)) (report_text details.unseen p os lines ++ why) answer
 
 -- the report on what a log says
 abbrev pub IsLogAnswer : Parts → ℕ → List Seen → LogDetails → Answer → Type 0
-IsLogAnswer p states lines details answer = IsByOutcomes p states (IsLogReport p lines details) answer
+IsLogAnswer p states lines details answer = IsByOutcomes p states (IsLogReport p states lines details) answer

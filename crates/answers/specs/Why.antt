@@ -71,14 +71,15 @@ first_values p os (line ∷ lines) =
     else option_or (values_seen p line.items) (first_values p os lines)
 
 -- an empty line, and what is answered of these values; nothing where there are none
-abbrev pub IsAnsweredOf : Option Values → List ℕ → Type 0
-IsAnsweredOf None text = text ≡ []
-IsAnsweredOf (Some v) text = (answer : Answer) × IsCompletionAnswer v answer × (text ≡ 10 ∷ answer.text.items)
+abbrev pub IsAnsweredOf : ℕ → Option Values → List ℕ → Type 0
+IsAnsweredOf states None text = text ≡ []
+IsAnsweredOf states (Some v) text =
+    (answer : Answer) × IsCompletionAnswer v states answer × (text ≡ 10 ∷ answer.text.items)
 
-abbrev pub IsWhy : Parts → List Outcome → List Seen → List ℕ → Type 0
-IsWhy p os lines text = IsAnsweredOf (first_values p os lines) text
+abbrev pub IsWhy : ℕ → Parts → List Outcome → List Seen → List ℕ → Type 0
+IsWhy states p os lines text = IsAnsweredOf states (first_values p os lines) text
 
 -- what is printed after a report, if it is asked for
-abbrev pub IsWhyAsked : Bool → Parts → List Outcome → List Seen → List ℕ → Type 0
-IsWhyAsked false p os lines text = text ≡ []
-IsWhyAsked true p os lines text = IsWhy p os lines text
+abbrev pub IsWhyAsked : Bool → ℕ → Parts → List Outcome → List Seen → List ℕ → Type 0
+IsWhyAsked false states p os lines text = text ≡ []
+IsWhyAsked true states p os lines text = IsWhy states p os lines text

@@ -21,12 +21,12 @@ fn put_needed(
     out: &mut Vec<u8>,
     alloc: Global,
     values: &Values,
-    limit: u32,
+    states: usize,
 ) -> Result<(), OutOfMemory>
     ensures { OnOk result ((shown : List ℕ) × MayShowPart values.now shown
         × (out.new.items ≡ out.old.items ++ shown)) }
 {
-    let Some(part) = part_of(alloc, values, limit)? else {
+    let Some(part) = part_of(alloc, values, states)? else {
         return Ok(());
     };
     let recording = only_recording(alloc, &part.values)?;
@@ -39,7 +39,7 @@ fn impossible_answer(
     alloc: Global,
     values: &Values,
     circle: &[Link],
-    limit: u32,
+    states: usize,
 ) -> Result<Answer, OutOfMemory>
     requires refuted { ¬ AreAllowed values.now }
     requires circle { (circle.now ≡ []) ⊎ IsCircle values.now circle.now }
@@ -48,7 +48,7 @@ fn impossible_answer(
     let mut text = Vec::new(alloc);
     put_text(&mut text, b"impossible\n")?;
     put_circle(&mut text, circle)?;
-    put_needed(&mut text, alloc, values, limit)?;
+    put_needed(&mut text, alloc, values, states)?;
     Ok(Answer {
         outcome: Outcome::Violation,
         text,
@@ -56,17 +56,16 @@ fn impossible_answer(
 }
 
 /// The text of a recording that completes the values, and which TSO allows; `impossible` where there is none, with a
-/// circle of events where rules show it, and a part of which each event is needed; or `unfinished` where more states
-/// than this would have to be looked at. Fails only if out of memory.
+/// circle of events where rules show it, and a part of which each event is needed; or `unfinished` where moves lead to
+/// more states than this. Fails only if out of memory.
 pub fn completion_answer(
     alloc: Global,
     values: &Values,
     states: usize,
 ) -> Result<Answer, OutOfMemory>
-    ensures { IfOk result (IsCompletionAnswer values.now) }
+    ensures { IfOk result (IsCompletionAnswer values.now states) }
 {
-    let limit = states.min(u32::MAX as usize) as u32;
-    match complete(alloc, values, limit)? {
+    match complete(alloc, values, states)? {
         Completion::Completed(recording, _order) => {
             let text = write_recording(alloc, &recording)?;
             Ok(Answer {
@@ -74,9 +73,9 @@ pub fn completion_answer(
                 text,
             })
         }
-        Completion::Impossible(None) => impossible_answer(alloc, values, &[], limit),
+        Completion::Impossible(None) => impossible_answer(alloc, values, &[], states),
         Completion::Impossible(Some(circle)) => {
-            impossible_answer(alloc, values, circle.as_slice(), limit)
+            impossible_answer(alloc, values, circle.as_slice(), states)
         }
         Completion::Unfinished => unfinished_answer(alloc),
     }

@@ -80,7 +80,7 @@ fn why_asked(
     lines: &[SeenLine],
     why: bool,
 ) -> Result<Vec<u8>, OutOfMemory>
-    ensures { IfOk result (λ text. IsWhyAsked why program.now outcomes.now lines.now text.items) }
+    ensures { IfOk result (λ text. IsWhyAsked why states program.now outcomes.now lines.now text.items) }
 {
     if !why {
         return Ok(Vec::new(alloc));
@@ -97,7 +97,7 @@ fn log_report(
     lines: &[SeenLine],
     details: LogDetails,
 ) -> Result<Answer, OutOfMemory>
-    ensures { IfOk result (IsLogReport program.now lines.now details outcomes.now) }
+    ensures { IfOk result (IsLogReport program.now states lines.now details outcomes.now) }
 {
     let report = report_on(alloc, program, outcomes, lines, details.unseen)?;
     let why = why_asked(alloc, program, states, outcomes, lines, details.why)?;

@@ -167,7 +167,7 @@ pub(crate) fn why_text(
     outcomes: &[Outcome],
     lines: &[SeenLine],
 ) -> Result<Vec<u8>, OutOfMemory>
-    ensures { IfOk result (λ text. IsWhy program.now outcomes.now lines.now text.items) }
+    ensures { IfOk result (λ text. IsWhy states program.now outcomes.now lines.now text.items) }
 {
     let mut text = Vec::new(alloc);
     let Some(values) = first_values(alloc, program, outcomes, lines)? else {

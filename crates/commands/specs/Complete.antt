@@ -7,4 +7,4 @@ use Rattle.inputs.specs.Named.{OfValues}
 
 -- the values of the named input are completed, or are impossible, or it is `unfinished`
 abbrev pub IsCompletedInput : (List ℕ → Option (List ℕ)) → CompleteOptions → Answer → Type 0
-IsCompletedInput inputs o answer = OfValues inputs (string_bytes o.file) (λ v. IsCompletionAnswer v answer)
+IsCompletedInput inputs o answer = OfValues inputs (string_bytes o.file) (λ v. IsCompletionAnswer v o.states answer)

@@ -1,5 +1,5 @@
 -- What is found in lines.
-use Rattle.std.specs.Prelude.{◌≡◌, ◌≢◌, ◌⊎◌, ℕ, List, Result, Ok, Err, map, ⊤}
+use Rattle.std.specs.Prelude.{◌≡◌, ◌≢◌, ◌⊎◌, ℕ, List, Result, Ok, Err, map}
 use Rattle.std.specs.List.{AllZip}
 use Rattle.recording.specs.Execution.{Execution}
 use Rattle.recording.specs.declared.fault.RecError.{RecError}
@@ -12,6 +12,7 @@ use Rattle.ledger.specs.declared.finding.Finding.TheVariants.{Ordered, Impossibl
 use Rattle.ledger.specs.Findings.{finding_code, finding_of}
 use Rattle.values.specs.Values.{AreAllowed, Values}
 use Rattle.values_text.specs.Reading.{IsValuesReading}
+use Rattle.completion.specs.Reachable.{HasMore}
 use Rattle.surveys.specs.declared.kind.LineKind.{LineKind}
 use Rattle.surveys.specs.declared.kind.LineKind.TheVariants as kinds
 
@@ -42,18 +43,18 @@ pub record IsRecordingFinding (bytes : List ℕ) (finding : Finding) : Type 0 wh
   pub is_given : IsLineResult bytes given
   pub finds : finding ≡ given_finding given
 
--- what is found of values: that TSO allows them, or that it does not; nothing is said of what is unfinished
-abbrev pub IsValuesFound : Values → Finding → Type 0
-IsValuesFound v Ordered = AreAllowed v
-IsValuesFound v Impossible = ¬ AreAllowed v
-IsValuesFound v Unfinished = ⊤
-IsValuesFound v other = ⊥
+-- what is found of values: that TSO allows them, or that it does not; or that moves lead to more states than this
+abbrev pub IsValuesFound : Values → ℕ → Finding → Type 0
+IsValuesFound v states Ordered = AreAllowed v
+IsValuesFound v states Impossible = ¬ AreAllowed v
+IsValuesFound v states Unfinished = HasMore v states
+IsValuesFound v states other = ⊥
 
--- the bytes give values, of which this is found
-pub record AreCompleted (bytes : List ℕ) (finding : Finding) : Type 0 where
+-- the bytes give values, of which this is found where no more states are seen
+pub record AreCompleted (bytes : List ℕ) (states : ℕ) (finding : Finding) : Type 0 where
   pub values : Values
   pub read : IsValuesReading bytes (Ok values)
-  pub found : IsValuesFound values finding
+  pub found : IsValuesFound values states finding
 
 -- the bytes give none, and this refusal is found; it is not that memory ran out
 pub record AreNoValues (bytes : List ℕ) (finding : Finding) : Type 0 where
@@ -65,7 +66,7 @@ pub record AreNoValues (bytes : List ℕ) (finding : Finding) : Type 0 where
 -- what is found in the bytes of a line of this kind
 abbrev pub IsLineFinding : LineKind → List ℕ → Finding → Type 0
 IsLineFinding kinds.Recording bytes finding = IsRecordingFinding bytes finding
-IsLineFinding (kinds.Values states) bytes finding = AreCompleted bytes finding ⊎ AreNoValues bytes finding
+IsLineFinding (kinds.Values states) bytes finding = AreCompleted bytes states finding ⊎ AreNoValues bytes finding
 
 -- what is found in lines, in order
 abbrev pub AreFindings : LineKind → List (List ℕ) → List Finding → Type 0

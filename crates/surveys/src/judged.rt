@@ -55,12 +55,11 @@ fn finding_of_recording(alloc: Global, bytes: &[u8]) -> Result<Finding, OutOfMem
     }
 }
 
-/// What values come to, where no more than this many states are looked at.
+/// What values come to, where no more than this many states are seen.
 fn found_of(alloc: Global, values: &Values, states: usize) -> Result<Finding, OutOfMemory>
-    ensures { IfOk result (IsValuesFound values.now) }
+    ensures { IfOk result (IsValuesFound values.now states) }
 {
-    let limit = states.min(u32::MAX as usize) as u32;
-    match complete(alloc, values, limit)? {
+    match complete(alloc, values, states)? {
         Answer::Completed(..) => Ok(Finding::Ordered),
         Answer::Impossible(_) => Ok(Finding::Impossible),
         Answer::Unfinished => Ok(Finding::Unfinished),
@@ -70,7 +69,7 @@ fn found_of(alloc: Global, values: &Values, states: usize) -> Result<Finding, Ou
 /// What the values that the bytes of a line give come to, or their refusal. It does not block. Fails only if out of
 /// memory.
 fn finding_of_values(alloc: Global, bytes: &[u8], states: usize) -> Result<Finding, OutOfMemory>
-    ensures { IfOk result (λ f. AreCompleted bytes.now f ⊎ AreNoValues bytes.now f) }
+    ensures { IfOk result (λ f. AreCompleted bytes.now states f ⊎ AreNoValues bytes.now f) }
 {
     match read_values(alloc, bytes) {
         Ok(values) => found_of(alloc, &values, states),

@@ -21,7 +21,7 @@ completed_outcome text states a (inr (inl completed)) = elim completed.answered 
   | inl ordered ↦ inl ordered.said.outcome_is
   | inr more ↦ elim more [
     | inl impossible ↦ inr (inl impossible.said.outcome_is)
-    | inr unfinished ↦ inr (inr (inr unfinished.outcome_is))
+    | inr unfinished ↦ inr (inr (inr unfinished.said.outcome_is))
   ]
 ]
 completed_outcome text states a (inr (inr refused)) = inr (inr (inl refused.outcome))

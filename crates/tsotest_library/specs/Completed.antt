@@ -9,11 +9,11 @@ use Rattle.verdicts.specs.declared.printed.Answer.{Answer}
 use Rattle.answers.specs.Completion.{IsCompletionAnswer}
 use Rattle.tsotest_library.specs.Refused.{AreStatesRefused}
 
--- what the values of a text come to
-pub record IsCompletedText (text : List ℕ) (answer : Answer) : Type 0 where
+-- what the values of a text come to, where no more states are seen
+pub record IsCompletedText (text : List ℕ) (states : ℕ) (answer : Answer) : Type 0 where
   pub values : Values
   pub read : IsValuesReading text (Ok values)
-  pub answered : IsCompletionAnswer values answer
+  pub answered : IsCompletionAnswer values states answer
 
 -- the refusal that the text has, and its line
 pub record IsValuesRefused (text : List ℕ) (answer : Answer) : Type 0 where
@@ -25,4 +25,4 @@ pub record IsValuesRefused (text : List ℕ) (answer : Answer) : Type 0 where
 -- what the values of a text come to, or that the number or the text is refused
 abbrev pub IsCompletedOf : List ℕ → ℕ → Answer → Type 0
 IsCompletedOf text states answer =
-    AreStatesRefused states answer ⊎ (IsCompletedText text answer ⊎ IsValuesRefused text answer)
+    AreStatesRefused states answer ⊎ (IsCompletedText text states answer ⊎ IsValuesRefused text answer)

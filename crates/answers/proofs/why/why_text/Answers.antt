@@ -13,5 +13,5 @@ returns c =
     let shown : c.extend_from_slice.new.self.items ≡ 10 ∷ text =
     c.in_ok-extend_from_slice.ensures.items ∙ (ap (λ (l : List ℕ). l ++ c.deref.result.now) line
     ∙ ap (λ (l : List ℕ). 10 ∷ l) c.deref.ensures.value) in
-    subst (λ (o : Option Values). IsAnsweredOf o c.extend_from_slice.new.self.items) is
+    subst (λ (o : Option Values). IsAnsweredOf c.args.states o c.extend_from_slice.new.self.items) is
     (c.in_ok-answer.answer, c.in_ok-answer.ensures, shown)
