@@ -1,0 +1,2 @@
+pub mod PackedLists
+pub mod ChainedLists

@@ -1,0 +1,2 @@
+pub mod Packed
+pub mod Chains

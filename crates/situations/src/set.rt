@@ -1,0 +1,194 @@
+//! Lists of equally many numbers that are found by their numbers.
+
+ghost use Rattle.std.specs.Prelude.{◌≡◌, ◌+◌, ◌^◌, ◌<◌, ◌≤◌, ◌↔◌, Contains, IsTrue, length, replicate, slice_index};
+ghost use Rattle.std.specs.Prelude.{slice_set};
+ghost use Rattle.situations.specs.Chains.{AreChained, bucket_of};
+ghost use Rattle.situations.specs.Packed.{numbers_of};
+
+use crate::numbers::Numbers;
+use crate::packed::Packed;
+use common::OutOfMemory;
+use std::alloc::Global;
+use std::marker::Model;
+
+/// The bucket of a list, of this many.
+fn bucket_of(list: &Numbers, size: usize) -> usize
+    requires { 0 < size }
+    ensures value { result ≡ bucket_of size (numbers_of list.now) }
+    ensures within { result < size }
+{
+    (list.hash() >> 32) as usize % size
+}
+
+/// Puts a list before the others in its bucket.
+fn link(list: &Numbers, number: usize, heads: &mut Vec<u32>, next: &mut Vec<u32>)
+    requires some { 0 < length heads.old.items }
+    requires room { number < length next.old.items }
+    requires few { number + 1 < 2 ^ 32 }
+    ensures heads { heads.new.items
+        ≡ slice_set heads.old.items (bucket_of (length heads.old.items) (numbers_of list.now)) (number + 1) }
+    ensures next { next.new.items ≡ slice_set next.old.items number
+        (slice_index heads.old.items (bucket_of (length heads.old.items) (numbers_of list.now))) }
+{
+    let bucket = bucket_of(list, heads.len());
+    next[number] = heads[bucket];
+    heads[bucket] = number as u32 + 1;
+}
+
+/// Puts each list into its bucket.
+fn link_all(lists: &Packed, heads: &mut Vec<u32>, next: &mut Vec<u32>)
+    requires some { 0 < length heads.old.items }
+    requires empty { heads.old.items ≡ replicate (length heads.old.items) 0 }
+    requires room { length lists.now.lists ≤ length next.old.items }
+    requires few { length lists.now.lists < 2 ^ 32 }
+    ensures { AreChained lists.now.lists (length lists.now.lists) heads.new.items next.new.items }
+{
+    for number in 0..lists.len() {
+        link(&lists.list(number), number, heads, next);
+    }
+}
+
+/// Whether a list is among those that are linked.
+fn is_linked(lists: &Packed, heads: &[u32], next: &[u32], list: &[u32]) -> bool
+    requires { AreChained lists.now.lists (length lists.now.lists) heads.now next.now }
+    ensures { IsTrue result ↔ Contains lists.now.lists list.now }
+{
+    let mut at = heads[bucket_of(&Numbers::Words(list), heads.len())] as usize;
+    while at != 0 {
+        let number = at - 1;
+        if lists.list(number).are(list) {
+            return true;
+        }
+        at = next[number] as usize;
+    }
+    false
+}
+
+/// Lists of equally many numbers below 2^32, each once, that are found by their numbers: each bucket has a chain of its
+/// lists. A list takes a byte for each number where all numbers of its block of 64 lists are below 256, else four; and 8
+/// to 12 bytes by which it is found.
+#[derive(Drop)]
+pub struct ListSet {
+    /// The lists.
+    lists: Packed,
+    /// For each bucket the number of its last list, from 1, and 0 where it has none.
+    heads: Vec<u32>,
+    /// For each list the number of the one before it in its bucket, from 1, and 0 where it is the first.
+    next: Vec<u32>,
+}
+
+impl Model for ListSet {
+    ghost use Rattle.std.specs.Prelude.{length};
+    ghost use Rattle.situations.specs.Chains.{AreChained};
+    ghost use Rattle.situations.specs.Packed.{PackedLists};
+
+    ghost Value = { PackedLists };
+
+    ghost view = { λ s. s.lists };
+
+    ghost invariant = { λ s. AreChained s.lists.lists (length s.lists.lists) s.heads.items s.next.items };
+}
+
+impl ListSet {
+    ghost use Rattle.std.specs.Prelude.{◌≡◌, ◌^◌, ◌+◌, ◌<◌, ◌++◌, ◌∷◌, ◌↔◌, [], All, Contains, IfOk, IsTrue, OnErr, OnOk, length};
+    ghost use Rattle.std.specs.Prelude.{slice_index_or};
+    ghost use Rattle.situations.specs.Chains.{with_list};
+    ghost use Rattle.situations.specs.Packed.{numbers_of};
+
+    /// No lists yet, of this many numbers each. Fails only if out of memory.
+    pub fn new(alloc: Global, width: usize) -> Result<ListSet, OutOfMemory>
+        requires { width < 2 ^ 32 }
+        ensures { IfOk result (λ s. s ≡ record { width = width; lists = [] }) }
+    {
+        Ok(ListSet {
+            lists: Packed::new(alloc, width),
+            heads: vec![in alloc; 0u32; 64]?,
+            next: Vec::new(alloc),
+        })
+    }
+
+    /// How many lists there are.
+    pub fn len(&self) -> usize
+        ensures { result ≡ length self.now.lists }
+    {
+        self.lists.len()
+    }
+
+    /// What all lists keep. It does nothing.
+    pub fn sound(&self)
+        ensures { All (λ l. length l ≡ self.now.width) self.now.lists }
+    {
+        self.lists.sound();
+    }
+
+    /// The list with a number.
+    pub fn list(&self, number: usize) -> Numbers
+        requires { number < length self.now.lists }
+        ensures { numbers_of result ≡ slice_index_or self.now.lists number [] }
+    {
+        self.lists.list(number)
+    }
+
+    /// Whether a list is among them.
+    fn has(&self, list: &[u32]) -> bool
+        ensures { IsTrue result ↔ Contains self.now.lists list.now }
+    {
+        is_linked(&self.lists, &self.heads, &self.next, list)
+    }
+
+    /// Twice as many buckets.
+    fn grow(&mut self, alloc: Global) -> Result<(), OutOfMemory>
+        requires { length self.old.lists < 2 ^ 32 }
+        ensures { self.new ≡ self.old }
+    {
+        let mut heads = vec![in alloc; 0u32; self.heads.len().saturating_mul(2)]?;
+        link_all(&self.lists, &mut heads, &mut self.next);
+        self.heads = heads;
+        Ok(())
+    }
+
+    /// Adds a list.
+    fn add(&mut self, alloc: Global, list: &[u32]) -> Result<(), OutOfMemory>
+        requires width { length list.now ≡ self.old.width }
+        requires few { length self.old.lists + 1 < 2 ^ 32 }
+        ensures err { OnErr result (self.new ≡ self.old) }
+        ensures ok { OnOk result (self.new ≡ record {
+          width = self.old.width;
+          lists = self.old.lists ++ list.now ∷ [];
+        }) }
+    {
+        let number = self.lists.len();
+        if self.next.len() == number {
+            self.next.push(0)?;
+        }
+        self.lists.push(alloc, list)?;
+        link(
+            &Numbers::Words(list),
+            number,
+            &mut self.heads,
+            &mut self.next,
+        );
+        Ok(())
+    }
+
+    /// Adds a list, unless it is there. Fails only if out of memory, or with 2^32 - 1 lists.
+    pub fn insert(&mut self, alloc: Global, list: &[u32]) -> Result<(), OutOfMemory>
+        requires { length list.now ≡ self.old.width }
+        ensures err { OnErr result (self.new ≡ self.old) }
+        ensures ok { OnOk result (self.new ≡ record {
+          width = self.old.width;
+          lists = with_list self.old.lists list.now;
+        }) }
+    {
+        if self.has(list) {
+            return Ok(());
+        }
+        if self.len() >= u32::MAX as usize {
+            return Err(OutOfMemory);
+        }
+        if self.len() >= self.heads.len() {
+            self.grow(alloc)?;
+        }
+        self.add(alloc, list)
+    }
+}
