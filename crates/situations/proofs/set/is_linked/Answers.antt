@@ -1,7 +1,5 @@
-use Rattle.std.proofs.Common.{◌≡◌, ◌≢◌, ◌<◌, ◌-◌, ◌∙◌, [], ℕ, List, arith, get_or, length, subst, suc, sym, ap, refl}
-use Rattle.std.specs.Cmp.Lexicographic.{other_text}
+use Rattle.std.proofs.Common.{◌≡◌, ◌≢◌, ◌<◌, ◌-◌, ◌∙◌, [], ℕ, List, arith, get_or, length, subst, suc, ap, refl}
 use Rattle.situations.specs.Chains.{bucket_of}
-use Rattle.situations.specs.Packed.{numbers_of}
 use Rattle.situations.proofs.ChainedLists.{IsWalk, last_few, walk_begun, walk_done, walk_on}
 use Rattle.situations.proofs.set.is_linked.Goals as goal
 

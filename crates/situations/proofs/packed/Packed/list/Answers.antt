@@ -1,10 +1,10 @@
-use Rattle.std.proofs.Common.{◌≡◌, ◌<◌, ◌≤◌, ◌/◌, ◌%◌, ◌*◌, ◌∷◌, ◌++◌, ◌∙◌, [], ℕ, List, ap, arith, drop, get_or}
+use Rattle.std.proofs.Common.{◌≡◌, ◌<◌, ◌/◌, ◌%◌, ◌*◌, ◌∷◌, ◌++◌, ◌∙◌, [], ℕ, List, ap, arith, drop, get_or}
 use Rattle.std.proofs.Common.{length, map, sym}
 use Rattle.std.proofs.Common.{take}
 use Rattle.std.proofs.lemmas.List.{length-map}
 use Rattle.std.proofs.lemmas.List.FromFn.{length-map-range_with_len}
 use Rattle.situations.specs.declared.block.Block.{Block}
-use Rattle.situations.specs.Packed.{AreFull, PackedLists, list_at, lists_in, numbers_in}
+use Rattle.situations.specs.Packed.{PackedLists, list_at, lists_in, numbers_in}
 use Rattle.situations.proofs.PackedLists.{at_last, block_is, in_block, list_at_last, list_in_block}
 use Rattle.situations.proofs.packed.Packed.list.Goals as goal
 

@@ -1,8 +1,7 @@
 use Rattle.std.proofs.Common.{◌≡◌, ◌≢◌, ◌∙◌, ◌+◌, ◌*◌, ◌<◌, ◌^◌, ◌++◌, ◌∷◌, [], ℕ, List, ap, arith, length, map, sym, refl}
-use Rattle.std.proofs.Common.{length-append, subst}
+use Rattle.std.proofs.Common.{length-append}
 use Rattle.std.proofs.lemmas.List.{length-map}
 use Rattle.std.proofs.lemmas.List.FromFn.{length-map-range_with_len}
-use Rattle.situations.specs.declared.block.Block.{Block}
 use Rattle.situations.specs.Packed.{AreFull, PackedLists, list_at, lists_in, numbers_in}
 use Rattle.situations.proofs.PackedLists.{added_full, added_lists, closed_full, closed_lists, one_list_more}
 use Rattle.situations.proofs.packed.Packed.push.Goals as goal

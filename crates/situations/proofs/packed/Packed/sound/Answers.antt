@@ -1,4 +1,4 @@
-use Rattle.std.proofs.Common.{◌≡◌, ℕ, length, map, subst}
+use Rattle.std.proofs.Common.{◌≡◌, length, map, subst}
 use Rattle.std.specs.List.{All}
 use Rattle.situations.specs.Packed.{PackedLists, numbers_in}
 use Rattle.situations.proofs.PackedLists.{each_width}
