@@ -1,2 +1,3 @@
+pub mod Numbers
 pub mod Packed
 pub mod Chains

@@ -4,17 +4,10 @@ use Rattle.std.specs.Prelude.{slice_index_or, take}
 use Rattle.std.specs.List.{range_with_len}
 use Rattle.situations.specs.declared.block.Block.{Block}
 use Rattle.situations.specs.declared.block.Block.TheVariants as block
-use Rattle.situations.specs.declared.numbers.Numbers.{Numbers}
-use Rattle.situations.specs.declared.numbers.Numbers.TheVariants as lent
 
--- the numbers of a list, whether in bytes or in words
-abbrev pub numbers_of : Numbers → List ℕ
-numbers_of (lent.Bytes bytes) = bytes.now
-numbers_of (lent.Words words) = words.now
-
--- those of a block
+-- the numbers of a block
 abbrev pub numbers_in : Block → List ℕ
-numbers_in (block.Bytes bytes) = bytes.items
+numbers_in (block.Codes coded) = coded
 numbers_in (block.Words words) = words.items
 
 -- lists of numbers, and how many numbers each has

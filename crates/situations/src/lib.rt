@@ -2,6 +2,7 @@
 #![tactic(auto)]
 
 mod block;
+mod codes;
 mod numbers;
 mod packed;
 mod set;

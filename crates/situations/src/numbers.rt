@@ -1,19 +1,29 @@
 //! Lists of numbers, as they lie in memory.
 
-ghost use Rattle.std.specs.Prelude.{◌≡◌, ◌↔◌, IfOk, IsTrue};
+ghost use Rattle.std.specs.Prelude.{◌≡◌, ◌↔◌, ◌+◌, ◌≤◌, IfOk, IsTrue, drop, length, map, take};
 ghost use Rattle.situations.specs.Chains.{hash_from, mixed};
-ghost use Rattle.situations.specs.Packed.{numbers_of};
+ghost use Rattle.situations.specs.Numbers.{number_of};
 
+use crate::codes::number_of;
 use common::OutOfMemory;
 use std::alloc::Global;
 
-/// A list of numbers below 2^32, each in a word, or each in a byte where all are below 256.
+/// A list of numbers below 2^32, each in a byte, as a code, or each in a word.
 #[derive(Clone, Copy)]
 pub enum Numbers<'a> {
-    /// Each in a byte.
-    Bytes(&'a [u8]),
-    /// Each in a word.
+    /// The code of each, and the large numbers that codes from 128 on stand for.
+    Codes(&'a [u8], &'a [u32]),
+    /// The numbers themselves.
     Words(&'a [u32]),
+}
+
+/// This many, from a place on.
+pub(crate) fn part<T>(numbers: &[T], from: usize, count: usize) -> &[T]
+    requires { from + count ≤ length numbers.now }
+    ensures { result.now ≡ take count (drop from numbers.now) }
+{
+    let rest = &numbers[from..];
+    &rest[..count]
 }
 
 /// A number by which a list is found, after one word more.
@@ -24,13 +34,13 @@ fn mixed(hash: u64, word: u32) -> u64
         .wrapping_mul(11_400_714_819_323_198_485)
 }
 
-/// The number by which a list of bytes is found.
-fn hash_of_bytes(bytes: &[u8]) -> u64
-    ensures { result ≡ hash_from 0 bytes.now }
+/// The number by which a list of codes is found.
+fn hash_of_codes(codes: &[u8], large: &[u32]) -> u64
+    ensures { result ≡ hash_from 0 (map (number_of large.now) codes.now) }
 {
     let mut hash = 0;
-    for byte in bytes {
-        hash = mixed(hash, u32::from(*byte));
+    for code in codes {
+        hash = mixed(hash, number_of(*code, large));
     }
     hash
 }
@@ -46,28 +56,28 @@ fn hash_of_words(words: &[u32]) -> u64
     hash
 }
 
-/// Whether bytes and words are the same numbers.
-fn are_alike(bytes: &[u8], words: &[u32]) -> bool
-    ensures { IsTrue result ↔ (bytes.now ≡ words.now) }
+/// Whether codes and words are the same numbers.
+fn are_alike(codes: &[u8], large: &[u32], words: &[u32]) -> bool
+    ensures { IsTrue result ↔ (map (number_of large.now) codes.now ≡ words.now) }
 {
-    if bytes.len() != words.len() {
+    if codes.len() != words.len() {
         return false;
     }
-    for (i, byte) in bytes.iter().enumerate() {
-        if u32::from(*byte) != words[i] {
+    for (i, code) in codes.iter().enumerate() {
+        if number_of(*code, large) != words[i] {
             return false;
         }
     }
     true
 }
 
-/// Bytes, each as a word.
-fn words_of(alloc: Global, bytes: &[u8]) -> Result<Vec<u32>, OutOfMemory>
-    ensures { IfOk result (λ words. words.items ≡ bytes.now) }
+/// The numbers of codes, each in a word.
+fn words_of(alloc: Global, codes: &[u8], large: &[u32]) -> Result<Vec<u32>, OutOfMemory>
+    ensures { IfOk result (λ words. words.items ≡ map (number_of large.now) codes.now) }
 {
-    let mut words = Vec::with_capacity(alloc, bytes.len())?;
-    for byte in bytes {
-        words.push(u32::from(*byte))?;
+    let mut words = Vec::with_capacity(alloc, codes.len())?;
+    for code in codes {
+        words.push(number_of(*code, large))?;
     }
     Ok(words)
 }
@@ -75,14 +85,14 @@ fn words_of(alloc: Global, bytes: &[u8]) -> Result<Vec<u32>, OutOfMemory>
 impl Numbers<'_> {
     ghost use Rattle.std.specs.Prelude.{◌≡◌, ◌↔◌, IfOk, IsTrue};
     ghost use Rattle.situations.specs.Chains.{hash_from};
-    ghost use Rattle.situations.specs.Packed.{numbers_of};
+    ghost use Rattle.situations.specs.Numbers.{numbers_of};
 
     /// Whether these are the numbers.
     pub(crate) fn are(&self, list: &[u32]) -> bool
         ensures { IsTrue result ↔ (numbers_of self.now ≡ list.now) }
     {
         match self {
-            Numbers::Bytes(bytes) => are_alike(bytes, list),
+            Numbers::Codes(codes, large) => are_alike(codes, large, list),
             Numbers::Words(words) => *words == list,
         }
     }
@@ -92,7 +102,7 @@ impl Numbers<'_> {
         ensures { result ≡ hash_from 0 (numbers_of self.now) }
     {
         match self {
-            Numbers::Bytes(bytes) => hash_of_bytes(bytes),
+            Numbers::Codes(codes, large) => hash_of_codes(codes, large),
             Numbers::Words(words) => hash_of_words(words),
         }
     }
@@ -102,7 +112,7 @@ impl Numbers<'_> {
         ensures { IfOk result (λ words. words.items ≡ numbers_of self.now) }
     {
         match self {
-            Numbers::Bytes(bytes) => words_of(alloc, bytes),
+            Numbers::Codes(codes, large) => words_of(alloc, codes, large),
             Numbers::Words(words) => Ok(Vec::from_slice(alloc, words)?),
         }
     }

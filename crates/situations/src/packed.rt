@@ -3,8 +3,8 @@
 ghost use Rattle.std.specs.Prelude.{◌≡◌, ◌++◌, ◌∷◌, [], OnErr, OnOk, map};
 ghost use Rattle.situations.specs.Packed.{numbers_in};
 
-use crate::block::{Block, part_of_words};
-use crate::numbers::Numbers;
+use crate::block::Block;
+use crate::numbers::{Numbers, part};
 use common::OutOfMemory;
 use std::alloc::Global;
 use std::marker::Model;
@@ -52,7 +52,7 @@ impl Model for Packed {
 
 impl Packed {
     ghost use Rattle.std.specs.Prelude.{◌≡◌, ◌^◌, ◌<◌, ◌++◌, ◌∷◌, [], All, OnErr, OnOk, length, slice_index_or};
-    ghost use Rattle.situations.specs.Packed.{numbers_of};
+    ghost use Rattle.situations.specs.Numbers.{numbers_of};
 
     /// No lists yet, of this many numbers each.
     pub(crate) fn new(alloc: Global, width: usize) -> Packed
@@ -90,7 +90,7 @@ impl Packed {
         if number / 64 < self.blocks.len() {
             self.blocks[number / 64].part(from, self.width)
         } else {
-            part_of_words(&self.last, from, self.width)
+            Numbers::Words(part(&self.last, from, self.width))
         }
     }
 

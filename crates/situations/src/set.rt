@@ -3,7 +3,7 @@
 ghost use Rattle.std.specs.Prelude.{◌≡◌, ◌+◌, ◌^◌, ◌<◌, ◌≤◌, ◌↔◌, Contains, IsTrue, length, replicate, slice_index};
 ghost use Rattle.std.specs.Prelude.{slice_set};
 ghost use Rattle.situations.specs.Chains.{AreChained, bucket_of};
-ghost use Rattle.situations.specs.Packed.{numbers_of};
+ghost use Rattle.situations.specs.Numbers.{numbers_of};
 
 use crate::numbers::Numbers;
 use crate::packed::Packed;
@@ -93,7 +93,7 @@ impl ListSet {
     ghost use Rattle.std.specs.Prelude.{◌≡◌, ◌^◌, ◌+◌, ◌<◌, ◌++◌, ◌∷◌, ◌↔◌, [], All, Contains, IfOk, IsTrue, OnErr, OnOk, length};
     ghost use Rattle.std.specs.Prelude.{slice_index_or};
     ghost use Rattle.situations.specs.Chains.{with_list};
-    ghost use Rattle.situations.specs.Packed.{numbers_of};
+    ghost use Rattle.situations.specs.Numbers.{numbers_of};
 
     /// No lists yet, of this many numbers each. Fails only if out of memory.
     pub fn new(alloc: Global, width: usize) -> Result<ListSet, OutOfMemory>

@@ -28,8 +28,8 @@ part-requires c =
     c.self.invariant c.args.number (omega (arith, there, length-map blocks numbers_in)) in
     omega (arith, room, ap (λ (l : List ℕ). length l) same)
 
-pub part_of_words-requires : goal.part_of_words-requires
-part_of_words-requires c =
+pub part-requires-else-number-len : goal.part-requires-else-number-len
+part-requires-else-number-len c =
     let blocks : List Block = c.self.inside.blocks.items in
     let last : List ℕ = c.self.inside.last.items in
     let found = at_last c.self.inside.width c.self.inside.count (map numbers_in blocks) last c.self.invariant
@@ -61,7 +61,7 @@ returns-else-number-len c =
     let blocks : List Block = c.self.inside.blocks.items in
     let last : List ℕ = c.self.inside.last.items in
     let low = below w c.self.inside.count i (map numbers_in blocks) last c.args.self.now c.self.view_is c.requires in
-    c.part_of_words.ensures
+    c.part-else-number-len.ensures
     ∙ (ap (λ (l : List ℕ). take w (drop (w * (i % 64)) l)) c.deref.ensures.value
     ∙ (sym (list_at_last w c.self.inside.count (map numbers_in blocks) last c.self.invariant i low
     (omega (arith, c.if-number-len.false, c.len.ensures, length-map blocks numbers_in)))
