@@ -5,13 +5,14 @@ use Rattle.std.specs.Prelude.{length, nat_eq, slice_index, slice_index_or}
 use Rattle.std.specs.Cmp.Lexicographic.{pointwise}
 use Rattle.indexmap.specs.IndexSet.{insert_key}
 
--- a number by which a list is found, after one word more
-abbrev pub mixed : ℕ → ℕ → ℕ
-mixed h word = (h + word) % 2 ^ 64 * 11400714819323198485 % 2 ^ 64
+-- a number by which a list is found, after two words more
+abbrev pub mixed : ℕ → ℕ → ℕ → ℕ
+mixed h first second = (h + (first + second * 2 ^ 32)) % 2 ^ 64 * 11400714819323198485 % 2 ^ 64
 
 abbrev pub hash_from : ℕ → List ℕ → ℕ
 hash_from h [] = h
-hash_from h (word ∷ words) = hash_from (mixed h word) words
+hash_from h (first ∷ []) = mixed h first 0
+hash_from h (first ∷ second ∷ words) = hash_from (mixed h first second) words
 
 -- the bucket of a list, of this many
 abbrev pub bucket_of : ℕ → List ℕ → ℕ
@@ -30,6 +31,11 @@ pub record AreChained (lists : List (List ℕ)) (n : ℕ) (heads next : List ℕ
   pub room : n ≤ length next
   pub before : (i : ℕ) → i < n → slice_index next i
       ≡ last_in (length heads) lists (bucket_of (length heads) (slice_index_or lists i [])) i
+
+-- all lists are linked, and there is room for the words of one
+pub record IsLinked (width : ℕ) (lists : List (List ℕ)) (heads next words : List ℕ) : Type 0 where
+  pub chained : AreChained lists (length lists) heads next
+  pub room : length words ≡ width
 
 -- whether two lists are one
 abbrev pub same_list : List ℕ → List ℕ → Bool

@@ -7,6 +7,7 @@ use Rattle.situations.specs.declared.block.Block.TheVariants as block
 
 -- the numbers of a block
 abbrev pub numbers_in : Block → List ℕ
+numbers_in (block.Bytes bytes) = bytes.items
 numbers_in (block.Codes coded) = coded
 numbers_in (block.Words words) = words.items
 

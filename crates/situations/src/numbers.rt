@@ -1,19 +1,20 @@
 //! Lists of numbers, as they lie in memory.
 
-ghost use Rattle.std.specs.Prelude.{◌≡◌, ◌↔◌, ◌+◌, ◌≤◌, IfOk, IsTrue, drop, length, map, take};
-ghost use Rattle.situations.specs.Chains.{hash_from, mixed};
+ghost use Rattle.std.specs.Prelude.{◌≡◌, ◌+◌, ◌≤◌, drop, length, map, take};
 ghost use Rattle.situations.specs.Numbers.{number_of};
 
 use crate::codes::number_of;
 use common::OutOfMemory;
 use std::alloc::Global;
 
-/// A list of numbers below 2^32, each in a byte, as a code, or each in a word.
+/// A list of numbers below 2^32, each in a byte or in a word.
 #[derive(Clone, Copy)]
 pub enum Numbers<'a> {
-    /// The code of each, and the large numbers that codes from 128 on stand for.
+    /// Each in a byte.
+    Bytes(&'a [u8]),
+    /// The code of each, in a byte, and the large numbers for which codes from 128 on stand.
     Codes(&'a [u8], &'a [u32]),
-    /// The numbers themselves.
+    /// Each in a word.
     Words(&'a [u32]),
 }
 
@@ -26,84 +27,50 @@ pub(crate) fn part<T>(numbers: &[T], from: usize, count: usize) -> &[T]
     &rest[..count]
 }
 
-/// A number by which a list is found, after one word more.
-fn mixed(hash: u64, word: u32) -> u64
-    ensures { result ≡ mixed hash word }
+/// Reads bytes into words.
+fn read_bytes(bytes: &[u8], words: &mut [u32])
+    requires { length bytes.now ≡ length words.old }
+    ensures { words.new ≡ bytes.now }
 {
-    hash.wrapping_add(u64::from(word))
-        .wrapping_mul(11_400_714_819_323_198_485)
+    for (i, byte) in bytes.iter().enumerate() {
+        words[i] = u32::from(*byte);
+    }
 }
 
-/// The number by which a list of codes is found.
-fn hash_of_codes(codes: &[u8], large: &[u32]) -> u64
-    ensures { result ≡ hash_from 0 (map (number_of large.now) codes.now) }
+/// Reads the numbers of codes into words.
+fn read_codes(codes: &[u8], large: &[u32], words: &mut [u32])
+    requires { length codes.now ≡ length words.old }
+    ensures { words.new ≡ map (number_of large.now) codes.now }
 {
-    let mut hash = 0;
-    for code in codes {
-        hash = mixed(hash, number_of(*code, large));
-    }
-    hash
-}
-
-/// The number by which a list of words is found.
-fn hash_of_words(words: &[u32]) -> u64
-    ensures { result ≡ hash_from 0 words.now }
-{
-    let mut hash = 0;
-    for word in words {
-        hash = mixed(hash, *word);
-    }
-    hash
-}
-
-/// Whether codes and words are the same numbers.
-fn are_alike(codes: &[u8], large: &[u32], words: &[u32]) -> bool
-    ensures { IsTrue result ↔ (map (number_of large.now) codes.now ≡ words.now) }
-{
-    if codes.len() != words.len() {
-        return false;
-    }
     for (i, code) in codes.iter().enumerate() {
-        if number_of(*code, large) != words[i] {
-            return false;
-        }
+        words[i] = number_of(*code, large);
     }
-    true
-}
-
-/// The numbers of codes, each in a word.
-fn words_of(alloc: Global, codes: &[u8], large: &[u32]) -> Result<Vec<u32>, OutOfMemory>
-    ensures { IfOk result (λ words. words.items ≡ map (number_of large.now) codes.now) }
-{
-    let mut words = Vec::with_capacity(alloc, codes.len())?;
-    for code in codes {
-        words.push(number_of(*code, large))?;
-    }
-    Ok(words)
 }
 
 impl Numbers<'_> {
-    ghost use Rattle.std.specs.Prelude.{◌≡◌, ◌↔◌, IfOk, IsTrue};
-    ghost use Rattle.situations.specs.Chains.{hash_from};
+    ghost use Rattle.std.specs.Prelude.{◌≡◌, IfOk, length};
     ghost use Rattle.situations.specs.Numbers.{numbers_of};
 
-    /// Whether these are the numbers.
-    pub(crate) fn are(&self, list: &[u32]) -> bool
-        ensures { IsTrue result ↔ (numbers_of self.now ≡ list.now) }
+    /// How many there are.
+    fn len(&self) -> usize
+        ensures { result ≡ length (numbers_of self.now) }
     {
         match self {
-            Numbers::Codes(codes, large) => are_alike(codes, large, list),
-            Numbers::Words(words) => *words == list,
+            Numbers::Bytes(bytes) => bytes.len(),
+            Numbers::Codes(codes, _) => codes.len(),
+            Numbers::Words(words) => words.len(),
         }
     }
 
-    /// The number by which the list is found.
-    pub(crate) fn hash(&self) -> u64
-        ensures { result ≡ hash_from 0 (numbers_of self.now) }
+    /// Reads them into as many words.
+    pub(crate) fn read(&self, words: &mut [u32])
+        requires { length words.old ≡ length (numbers_of self.now) }
+        ensures { words.new ≡ numbers_of self.now }
     {
         match self {
-            Numbers::Codes(codes, large) => hash_of_codes(codes, large),
-            Numbers::Words(words) => hash_of_words(words),
+            Numbers::Bytes(bytes) => read_bytes(bytes, words),
+            Numbers::Codes(codes, large) => read_codes(codes, large, words),
+            Numbers::Words(own) => words.copy_from_slice(own),
         }
     }
 
@@ -111,9 +78,8 @@ impl Numbers<'_> {
     pub fn copy(&self, alloc: Global) -> Result<Vec<u32>, OutOfMemory>
         ensures { IfOk result (λ words. words.items ≡ numbers_of self.now) }
     {
-        match self {
-            Numbers::Codes(codes, large) => words_of(alloc, codes, large),
-            Numbers::Words(words) => Ok(Vec::from_slice(alloc, words)?),
-        }
+        let mut words = vec![in alloc; 0u32; self.len()]?;
+        self.read(&mut words);
+        Ok(words)
     }
 }

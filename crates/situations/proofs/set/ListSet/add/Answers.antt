@@ -14,23 +14,26 @@ invariant_of-self-2 c =
     let n : ℕ = length old in
     let list : List ℕ = c.args.list.now in
     let ready : AreChained old n c.if-len-number.self-inside.heads.items c.if-len-number.self-inside.next.items
-    × (n < length c.if-len-number.self-inside.next.items) × (c.if-len-number.self-inside.lists.lists ≡ old) =
+    × (n < length c.if-len-number.self-inside.next.items) × (c.if-len-number.self-inside.lists.lists ≡ old)
+    × (length c.if-len-number.self-inside.words.items ≡ c.if-len-number.self-inside.lists.width) =
     elim c.if-len-number.branch [
       | then-len-number+in_ok-push w ↦ rw w.self-inside-is (
-        more_room old n 0 c.self.inside.heads.items c.self.inside.next.items w.push.new.self.items c.self.invariant
+        more_room old n 0 c.self.inside.heads.items c.self.inside.next.items w.push.new.self.items c.self.invariant.chained
             w.in_ok-push.ensures.items,
         omega (
           arith,
-          c.self.invariant.room,
+          c.self.invariant.chained.room,
           ap (λ (l : List ℕ). length l) w.in_ok-push.ensures.items,
           length-append c.self.inside.next.items (0 ∷ []),
         ),
         refl,
+        c.self.invariant.room,
       )
       | else-len-number w ↦ rw w.self-inside-is (
-        c.self.invariant,
-        omega (arith, c.self.invariant.room, w.if-len-number.false, c.len.ensures, c.len-number.ensures),
+        c.self.invariant.chained,
+        omega (arith, c.self.invariant.chained.room, w.if-len-number.false, c.len.ensures, c.len-number.ensures),
         refl,
+        c.self.invariant.room,
       )
     ] in
     let heads : List ℕ = c.if-len-number.self-inside.heads.items in
@@ -47,6 +50,10 @@ invariant_of-self-2 c =
     c.len-number.ensures)
     (c.link.ensures.next ∙ ap (λ (k : ℕ). slice_set c.if-len-number.self-inside.next.items k
     (get_or heads (bucket_of (length heads) list) 0)) c.len-number.ensures) in
-    subst (λ (k : ℕ). AreChained c.push-2.new.self.lists k c.link.new.heads.items c.link.new.next.items) (sym size)
-    (subst (λ (ls : List (List ℕ)). AreChained ls (n + 1) c.link.new.heads.items c.link.new.next.items) (sym lists)
-    linked)
+    record {
+      chained = subst (λ (k : ℕ). AreChained c.push-2.new.self.lists k c.link.new.heads.items c.link.new.next.items)
+          (sym size)
+          (subst (λ (ls : List (List ℕ)). AreChained ls (n + 1) c.link.new.heads.items c.link.new.next.items)
+          (sym lists) linked);
+      room = ready.3 ∙ sym (ap (λ (p : PackedLists). p.width) c.in_ok-push-2.ensures.ok);
+    }
