@@ -85,13 +85,13 @@ impl Coded {
         ensures some { IfOk result (λ o. IfSome o (λ coded. coded ≡ words.now)) }
         ensures none { IfOk result (λ o. IfNone o (All (λ n. n < 128) words.now → ⊥)) }
     {
-        let mut codes = Vec::with_capacity(alloc, words.len())?;
+        let mut codes = vec![in alloc; 0u8; words.len()]?;
         let mut large = Vec::new(alloc);
-        for word in words {
+        for (i, word) in words.iter().enumerate() {
             let Some(code) = code_of(*word, &mut large)? else {
                 return Ok(None);
             };
-            codes.push(code)?;
+            codes[i] = code;
         }
         Ok(Some(Coded { codes, large }))
     }

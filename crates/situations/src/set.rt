@@ -95,8 +95,8 @@ fn is_linked(lists: &Packed, heads: &[u32], next: &[u32], list: &[u32], words: &
 }
 
 /// Lists of equally many numbers below 2^32, each once, that are found by their numbers: each bucket has a chain of its
-/// lists. A list takes a byte for each number where all numbers of its block of 64 lists are below 256, else four; and 8
-/// to 12 bytes by which it is found.
+/// lists. A list takes 8 to 12 bytes and one for each of its numbers; four for each where its block of 64 lists has a
+/// number above 255 and more than 128 numbers above 127.
 #[derive(Drop)]
 pub struct ListSet {
     /// The lists.
