@@ -3,11 +3,11 @@
 ghost use Rattle.std.specs.Prelude.{◌≡◌, ◌<◌, ◌↔◌, All, IfOk, IsTrue};
 
 use crate::codes::Coded;
-use crate::numbers::{Numbers, part};
+use crate::packed_list::{PackedList, part};
 use common::OutOfMemory;
 use std::alloc::Global;
 
-/// Numbers below 2^32, each in a byte where all are below 256 or few are large, else in a word.
+/// PackedList below 2^32, each in a byte where all are below 256 or few are large, else in a word.
 #[derive(Drop)]
 pub(crate) enum Block {
     /// Each in a byte.
@@ -56,14 +56,14 @@ impl Block {
     }
 
     /// This many of its numbers, from a place on.
-    pub(crate) fn part(&self, from: usize, count: usize) -> Numbers
+    pub(crate) fn part(&self, from: usize, count: usize) -> PackedList
         requires { from + count ≤ length (numbers_in self.now) }
         ensures { numbers_of result ≡ take count (drop from (numbers_in self.now)) }
     {
         match self {
-            Block::Bytes(bytes) => Numbers::Bytes(part(bytes, from, count)),
+            Block::Bytes(bytes) => PackedList::Bytes(part(bytes, from, count)),
             Block::Codes(coded) => coded.part(from, count),
-            Block::Words(words) => Numbers::Words(part(words, from, count)),
+            Block::Words(words) => PackedList::Words(part(words, from, count)),
         }
     }
 }

@@ -1,10 +1,10 @@
-//! Numbers as codes of a byte each.
+//! PackedList as codes of a byte each.
 
 ghost use Rattle.std.specs.Prelude.{◌≡◌, ◌+◌, ◌++◌, ◌<◌, ◌≤◌, ℕ, All, Contains, IfNone, IfOk, IfSome, List, OnOk, Some, length};
 ghost use Rattle.std.specs.Prelude.{slice_get};
 ghost use Rattle.situations.specs.Numbers.{number_of};
 
-use crate::numbers::{Numbers, part};
+use crate::packed_list::{PackedList, part};
 use common::OutOfMemory;
 use std::alloc::Global;
 use std::marker::Model;
@@ -58,7 +58,7 @@ fn code_of(number: u32, large: &mut Vec<u32>) -> Result<Option<u8>, OutOfMemory>
     }
 }
 
-/// Numbers, each as a code, and the large numbers among them.
+/// PackedList, each as a code, and the large numbers among them.
 #[derive(Drop)]
 pub(crate) struct Coded {
     /// The code of each.
@@ -97,10 +97,10 @@ impl Coded {
     }
 
     /// This many of them, from a place on.
-    pub(crate) fn part(&self, from: usize, count: usize) -> Numbers
+    pub(crate) fn part(&self, from: usize, count: usize) -> PackedList
         requires { from + count ≤ length self.now }
         ensures { numbers_of result ≡ take count (drop from self.now) }
     {
-        Numbers::Codes(part(&self.codes, from, count), &self.large)
+        PackedList::Codes(part(&self.codes, from, count), &self.large)
     }
 }

@@ -3,9 +3,9 @@
 
 mod block;
 mod codes;
-mod numbers;
 mod packed;
+mod packed_list;
 mod set;
 
-pub use numbers::Numbers;
+pub use packed_list::PackedList;
 pub use set::ListSet;

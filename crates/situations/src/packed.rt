@@ -4,7 +4,7 @@ ghost use Rattle.std.specs.Prelude.{◌≡◌, ◌++◌, ◌∷◌, [], OnErr, O
 ghost use Rattle.situations.specs.Packed.{numbers_in};
 
 use crate::block::Block;
-use crate::numbers::{Numbers, part};
+use crate::packed_list::{PackedList, part};
 use common::OutOfMemory;
 use std::alloc::Global;
 use std::marker::Model;
@@ -82,7 +82,7 @@ impl Packed {
     }
 
     /// The list with a number.
-    pub(crate) fn list(&self, number: usize) -> Numbers
+    pub(crate) fn list(&self, number: usize) -> PackedList
         requires { number < length self.now.lists }
         ensures { numbers_of result ≡ slice_index_or self.now.lists number [] }
     {
@@ -90,7 +90,7 @@ impl Packed {
         if number / 64 < self.blocks.len() {
             self.blocks[number / 64].part(from, self.width)
         } else {
-            Numbers::Words(part(&self.last, from, self.width))
+            PackedList::Words(part(&self.last, from, self.width))
         }
     }
 

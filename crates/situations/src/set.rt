@@ -5,8 +5,8 @@ ghost use Rattle.std.specs.Prelude.{slice_set};
 ghost use Rattle.situations.specs.Chains.{AreChained, bucket_of, hash_from, mixed};
 ghost use Rattle.situations.specs.Numbers.{numbers_of};
 
-use crate::numbers::Numbers;
 use crate::packed::Packed;
+use crate::packed_list::PackedList;
 use common::OutOfMemory;
 use std::alloc::Global;
 use std::marker::Model;
@@ -155,7 +155,7 @@ impl ListSet {
     }
 
     /// The list with a number.
-    pub fn list(&self, number: usize) -> Numbers
+    pub fn list(&self, number: usize) -> PackedList
         requires { number < length self.now.lists }
         ensures { numbers_of result ≡ slice_index_or self.now.lists number [] }
     {

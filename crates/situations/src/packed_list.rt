@@ -9,7 +9,7 @@ use std::alloc::Global;
 
 /// A list of numbers below 2^32, each in a byte or in a word.
 #[derive(Clone, Copy)]
-pub enum Numbers<'a> {
+pub enum PackedList<'a> {
     /// Each in a byte.
     Bytes(&'a [u8]),
     /// The code of each, in a byte, and the large numbers for which codes from 128 on stand.
@@ -47,7 +47,7 @@ fn read_codes(codes: &[u8], large: &[u32], words: &mut [u32])
     }
 }
 
-impl Numbers<'_> {
+impl PackedList<'_> {
     ghost use Rattle.std.specs.Prelude.{◌≡◌, IfOk, length};
     ghost use Rattle.situations.specs.Numbers.{numbers_of};
 
@@ -56,9 +56,9 @@ impl Numbers<'_> {
         ensures { result ≡ length (numbers_of self.now) }
     {
         match self {
-            Numbers::Bytes(bytes) => bytes.len(),
-            Numbers::Codes(codes, _) => codes.len(),
-            Numbers::Words(words) => words.len(),
+            PackedList::Bytes(bytes) => bytes.len(),
+            PackedList::Codes(codes, _) => codes.len(),
+            PackedList::Words(words) => words.len(),
         }
     }
 
@@ -68,9 +68,9 @@ impl Numbers<'_> {
         ensures { words.new ≡ numbers_of self.now }
     {
         match self {
-            Numbers::Bytes(bytes) => read_bytes(bytes, words),
-            Numbers::Codes(codes, large) => read_codes(codes, large, words),
-            Numbers::Words(own) => words.copy_from_slice(own),
+            PackedList::Bytes(bytes) => read_bytes(bytes, words),
+            PackedList::Codes(codes, large) => read_codes(codes, large, words),
+            PackedList::Words(own) => words.copy_from_slice(own),
         }
     }
 
