@@ -366,7 +366,7 @@ With `--show` stands a recording of the first outcome that has all of the items,
 if no outcome has them.
 
 The states of a machine with store buffers are looked at, about a million a second, of about
-150 bytes each. If there are more than `--states` allows, `unfinished` is printed alone.",
+80 bytes each. If there are more than `--states` allows, `unfinished` is printed alone.",
     statuses: "Exit status:
   0  the outcomes are printed, or a recording of one; each line of the log is allowed; the
      condition holds

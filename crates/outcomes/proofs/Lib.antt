@@ -14,6 +14,4 @@ pub mod Machine
 pub mod Reached
 pub mod Ways
 pub mod Driven
-pub mod PackedLists
-pub mod ChainedLists
 pub mod SeenRows

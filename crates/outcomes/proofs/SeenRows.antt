@@ -17,13 +17,13 @@ use Rattle.machine.specs.State.{first_event}
 use Rattle.outcomes.specs.declared.moves.Move.{Move}
 use Rattle.outcomes.specs.declared.moves.Move.TheVariants.{Exec, Drain}
 use Rattle.outcomes.specs.declared.ops.Waiting.{Waiting}
-use Rattle.outcomes.specs.Chains.{with_list}
-use Rattle.outcomes.specs.Packed.{PackedLists}
+use Rattle.situations.specs.Chains.{with_list}
+use Rattle.situations.specs.Packed.{PackedLists}
 use Rattle.outcomes.specs.Row.{AreOnce, FitsAmong, SeenRows, row_of, same_situation}
 use Rattle.outcomes.specs.Situation.{Situation, drained_by, executed_next, may_go, moved, oldest, ops_of, performed}
 use Rattle.outcomes.specs.Situation.{waiting}
 use Rattle.outcomes.specs.Situation as row
-use Rattle.outcomes.proofs.ChainedLists.{with_known, with_new}
+use Rattle.situations.proofs.ChainedLists.{with_known, with_new}
 use Rattle.outcomes.proofs.Grown.{same}
 
 -- the words of a situation

@@ -4,13 +4,11 @@
 mod driving;
 mod law;
 mod list;
-mod lists;
 mod moves;
 mod observed;
 mod opening;
 mod ops;
 mod outcome;
-mod packed;
 mod reads;
 mod recorded;
 mod row;

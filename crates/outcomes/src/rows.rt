@@ -1,8 +1,8 @@
 //! Rows that were seen.
 
-use crate::lists::ListSet;
 use crate::row::Row;
 use common::OutOfMemory;
+use situations::ListSet;
 use std::alloc::Global;
 use std::marker::Model;
 
@@ -75,7 +75,7 @@ impl Rows {
         ensures fits { IfOk result (FitsAmong self.now) }
     {
         self.lists.sound();
-        let words = Vec::from_slice(alloc, self.lists.list(number))?;
+        let words = self.lists.list(number).copy(alloc)?;
         Ok(Row::new(words, self.cores, self.addresses))
     }
 

@@ -1,7 +1,7 @@
 use Rattle.std.proofs.Common.{◌≡◌, ◌∙◌, ℕ, List, ap, length, map, sym}
 use Rattle.indexmap.specs.IndexSet.{insert_key}
-use Rattle.outcomes.specs.Chains.{with_list}
-use Rattle.outcomes.specs.Packed.{PackedLists}
+use Rattle.situations.specs.Chains.{with_list}
+use Rattle.situations.specs.Packed.{PackedLists}
 use Rattle.outcomes.specs.Row.{AreOnce, SeenRows, row_of, same_situation}
 use Rattle.outcomes.specs.Situation.{Situation}
 use Rattle.outcomes.proofs.Grown.{on_ok}

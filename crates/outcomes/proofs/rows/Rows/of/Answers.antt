@@ -1,5 +1,5 @@
 use Rattle.std.proofs.Common.{◌≡◌, ℕ, List, [], ap, arith, length, subst, sym}
-use Rattle.outcomes.specs.Packed.{PackedLists}
+use Rattle.situations.specs.Packed.{PackedLists}
 use Rattle.outcomes.specs.Row.{AreOnce}
 use Rattle.outcomes.proofs.SeenRows.{none_once, words_once}
 use Rattle.outcomes.proofs.rows.Rows.of.Goals as goal

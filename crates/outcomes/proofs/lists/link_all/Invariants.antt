@@ -1,9 +1,0 @@
-use Rattle.std.proofs.Common.{◌≤◌, length}
-use Rattle.outcomes.specs.Chains.{AreChained}
-use Rattle.outcomes.proofs.lists.link_all.Given as goal
-
-abbrev pub invariant-loop-number : goal.invariant-loop-number
-invariant-loop-number l = record {
-  chained : AreChained l.lists.lists l.number l.heads.items l.next.items;
-  room : length l.lists.lists ≤ length l.next.items;
-}

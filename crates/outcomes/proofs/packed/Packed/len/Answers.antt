@@ -1,9 +1,0 @@
-use Rattle.std.proofs.Common.{◌∙◌, ap, length, map, sym}
-use Rattle.std.proofs.lemmas.List.FromFn.{length-map-range_with_len}
-use Rattle.outcomes.specs.Packed.{PackedLists, list_at}
-use Rattle.outcomes.proofs.packed.Packed.len.Goals as goal
-
-pub returns : goal.returns
-returns c =
-    sym (length-map-range_with_len (list_at c.self.inside.width (map (λ b. b.items) c.self.inside.blocks.items)) 0
-    c.self.inside.count) ∙ ap (λ (p : PackedLists). length p.lists) c.self.view_is

@@ -1,0 +1,3 @@
+pub mod PackedLists
+pub mod ChainedLists
+pub mod CodedNumbers

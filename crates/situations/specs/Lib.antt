@@ -1,0 +1,3 @@
+pub mod Numbers
+pub mod Packed
+pub mod Chains
