@@ -26,7 +26,8 @@ commands = (
       (codes "cores", Size) ∷ (codes "ops", Size) ∷ (codes "addresses", Size)
           ∷ (codes "seed", Number) ∷ (codes "trials", Number) ∷ (codes "attempts", Number)
           ∷ (codes "buffer", Number) ∷ (codes "fault", Word) ∷ (codes "workers", Number)
-          ∷ (codes "show", Number) ∷ (codes "reduce", Nothing) ∷ (codes "quiet", Nothing) ∷ (codes "words", Nothing) ∷ [],
+          ∷ (codes "show", Number) ∷ (codes "reduce", Nothing) ∷ (codes "header", Nothing)
+          ∷ (codes "quiet", Nothing) ∷ (codes "words", Nothing) ∷ [],
     )
     ∷ (codes "live", (codes "PROGRAM", Place) ∷ (codes "buffer", Number) ∷ (codes "limit", Number) ∷ (codes "runs", Number) ∷ (codes "words", Nothing) ∷ [])
     ∷ (codes "replay", (codes "FILE", Place) ∷ (codes "words", Nothing) ∷ [])
@@ -52,7 +53,7 @@ commands = (
           ∷ (codes "reduce", Nothing) ∷ (codes "complete", Nothing) ∷ (codes "states", Number)
           ∷ (codes "quiet", Nothing) ∷ (codes "words", Nothing) ∷ [],
     )
-    ∷ (codes "merge", (codes "FILE", Places) ∷ (codes "words", Nothing) ∷ [])
+    ∷ (codes "merge", (codes "FILE", Places) ∷ (codes "partial", Nothing) ∷ (codes "words", Nothing) ∷ [])
     ∷ (
       codes "outcomes",
       (codes "PROGRAM", Place) ∷ (codes "states", Number) ∷ (codes "observed", Word) ∷ (codes "unseen", Nothing)

@@ -10,10 +10,10 @@ use Rattle.clap.specs.Words.{IsUnsignedIn, Row, Text, all_of, first_of, one_of}
 use Rattle.clap.specs.Takes.{is_given}
 use Rattle.clap.specs.Values.{bool_text}
 use Rattle.machine.specs.declared.fault.Fault.{Fault}
-use Rattle.machine.specs.declared.fault.Fault.TheVariants as fault
+use Rattle.headers.specs.Faults.{fault_named}
 use Rattle.command_line.specs.declared.options.Limits.{Limits}
 use Rattle.command_line.specs.declared.options.Misfit.{Misfit}
-use Rattle.command_line.specs.declared.options.Misfit.TheVariants.{EachWithShow, CompleteWithShow, ReduceWithoutShow}
+use Rattle.command_line.specs.declared.options.Misfit.TheVariants.{EachWithShow, CompleteWithShow, HeaderWithShow, ReduceWithoutShow}
 use Rattle.command_line.specs.declared.options.Misfit.TheVariants.{StatesWithoutComplete}
 use Rattle.command_line.specs.declared.options.Misfit.TheVariants.{RunsWithSteps, TwoQuestions, UnseenWithoutObserved, WhyWithoutObserved}
 use Rattle.command_line.specs.declared.options.Misfit.TheVariants.{ProgramWithLong, WorkersWithLong}
@@ -46,24 +46,6 @@ show_of rows = option_map number_written (one_of (codes "show") rows)
 -- --runs
 abbrev pub runs_of : List Row → Option ℕ
 runs_of rows = option_map number_written (one_of (codes "runs") rows)
-
--- the name by which --fault asks for a fault
-abbrev pub fault_name : Fault → Text
-fault_name fault.None = codes "none"
-fault_name fault.NoBypass = codes "no-bypass"
-fault_name fault.YoungestFirst = codes "youngest-first"
-fault_name fault.OpenFence = codes "open-fence"
-fault_name fault.StaleShare = codes "stale-share"
-fault_name fault.EarlyRmw = codes "early-rmw"
-
--- the faults, in the order of the help
-abbrev pub faults : List Fault
-faults = fault.None ∷ fault.NoBypass ∷ fault.YoungestFirst ∷ fault.OpenFence ∷ fault.StaleShare
-    ∷ fault.EarlyRmw ∷ []
-
--- the fault of a name
-abbrev pub fault_named : Text → Option Fault
-fault_named name = find (λ f. bytes_eq name (fault_name f)) faults
 
 -- the fault that an entry's text names, or else the default
 abbrev pub fault_or : Fault → Option Text → Option Fault
@@ -158,13 +140,14 @@ long_misfit rows =
     if is_some (one_of (codes "workers") rows) && is_given (codes "long") rows then Some WorkersWithLong
     else (if is_given (codes "long") rows && not (given (codes "program") rows == 0) then Some ProgramWithLong else None)
 
--- the options that don't go together: --each with --show, or --reduce without it, or those of survey, of outcomes, of runs,
+-- the options that don't go together: --each or --header with --show, or --reduce without it, or those of survey, of outcomes, of runs,
 -- of make or with --long
 abbrev pub misfit_of : List Row → Option Misfit
 misfit_of rows = if is_some (show_of rows) && is_given (codes "each") rows then Some EachWithShow
+    else (if is_some (show_of rows) && is_given (codes "header") rows then Some HeaderWithShow
     else (if not (is_some (show_of rows)) && is_given (codes "reduce") rows then Some ReduceWithoutShow
     else option_or (survey_misfit rows) (option_or (question_misfit rows)
-    (option_or (runs_misfit rows) (option_or (make_misfit rows) (long_misfit rows)))))
+    (option_or (runs_misfit rows) (option_or (make_misfit rows) (long_misfit rows))))))
 
 -- the entry, where there is one, is a number of 64 bits
 abbrev pub HasNumber : Text → List Row → Type 0

@@ -11,7 +11,7 @@ use Rattle.common.specs.declared.limits.TheConstants.{MAX_ADDRESSES, MAX_CORES, 
 use Rattle.command_line.specs.declared.options.TheConstants.{ATTEMPTS, BUFFER, CYCLES, DEFAULT_FAULT, DEFAULT_SEED}
 use Rattle.command_line.specs.declared.options.TheConstants.{LIMIT, STATES, TRIALS, WORKERS}
 use Rattle.command_line.specs.declared.table.CommandRow.{CommandRow}
-use Rattle.command_line.specs.Entries.{fault_name, faults}
+use Rattle.headers.specs.Faults.{fault_name, faults}
 
 -- what stands after the first place of a part in the text
 abbrev pub text_after : Text → Text → Text

@@ -78,6 +78,8 @@ pub record AreValuesAsked (v : Values) (rows : List Row) : Type 0 where
   pub show : v.show ≡ show_of rows
   pub shown : is_some v.shape ≡ true → IfSome v.show (λ k. k < v.trials)
   pub reduce : v.reduce ≡ is_given (codes "reduce") rows
+  pub header : v.header ≡ is_given (codes "header") rows
+  pub partial : v.partial ≡ is_given (codes "partial") rows
   pub quiet : v.quiet ≡ is_given (codes "quiet") rows
   pub all : v.all ≡ is_given (codes "all") rows
   pub each : v.each ≡ is_given (codes "each") rows
@@ -118,6 +120,7 @@ pub record AreTrialsOptions (o : TrialsOptions) (rows : List Row) : Type 0 where
   pub show : o.show ≡ show_of rows
   pub shown : IfSome o.show (λ k. k < o.campaign.trials)
   pub reduce : o.reduce ≡ is_given (codes "reduce") rows
+  pub header : o.header ≡ is_given (codes "header") rows
   pub quiet : o.quiet ≡ is_given (codes "quiet") rows
 
 -- each option of live is its entry, or else its default
@@ -169,10 +172,11 @@ pub record AreSurveyOptions (o : SurveyOptions) (rows : List Row) : Type 0 where
   pub quiet : o.quiet ≡ is_given (codes "quiet") rows
   pub complete : IsCompletionAsked o.complete rows
 
--- the names are those of the entry, one at least
+-- the names are those of the entry, one at least, and some may be missing where the words have --partial
 pub record AreMergeOptions (o : MergeOptions) (rows : List Row) : Type 0 where
   pub files : all_of (codes "FILE") rows ≡ Some (map string_bytes o.files.items)
   pub some : 0 < length o.files.items
+  pub partial : o.partial ≡ is_given (codes "partial") rows
 
 -- the question of the entries, of which one at most asks
 abbrev pub IsQuestion : Question → List Row → Type 0

@@ -42,7 +42,11 @@ Of texts of campaigns or surveys, whose lines are counted from 1, with the name 
 M1   line N is no line of such a text (it has each line that `trials` or `survey` prints, whole; lengths of cycles ascend, up to 512, and each has a count)
 M2   line N begins a text that no list of outcomes has (its counts add up, and after the first of a kind there is room for all of it)
 M3   line N begins a text of the other kind than the first (all are those of campaigns, or all those of surveys)
-M4   line N begins a text with which there are 2^64 or more (a count has 64 bits)
+M4   line N begins a text of another campaign (all options of headers but `--seed` and `--trials` are those of the first)
+M5   seeds or lines N are in no text (texts with headers follow each other; with `--partial` some may be missing)
+M6   seeds or lines N are in two texts (each is counted once)
+M7   line N begins a text with which there are 2^64 or more (a count has 64 bits)
+M8   line N begins a text without a header (where the first text has one, or with `--partial`, each has)
 
 Of the labels of events, whose lines are counted from 1:
 A1   line N is too long for a label (a label has at most 64 bytes)

@@ -157,8 +157,13 @@ fn survey_options(
 }
 
 /// The options of `merge`.
-fn merge_options(alloc: Global, matches: &ArgMatches<'_>) -> Result<MergeOptions, AllocError>
-    requires { HasText (codes "FILE") (rows_of (found_of matches.now)) }
+fn merge_options(
+    alloc: Global,
+    matches: &ArgMatches<'_>,
+    values: &Values,
+) -> Result<MergeOptions, AllocError>
+    requires file { HasText (codes "FILE") (rows_of (found_of matches.now)) }
+    requires values { AreValuesAsked values.now (rows_of (found_of matches.now)) }
     ensures { IfOk result (λ o. AreMergeOptions o (rows_of (found_of matches.now))) }
 {
     let Some(texts) = maybe_texts(matches, "FILE") else {
@@ -169,7 +174,10 @@ fn merge_options(alloc: Global, matches: &ArgMatches<'_>) -> Result<MergeOptions
         let name = String::from_str(alloc, text)?;
         files.push(name)?;
     }
-    Ok(MergeOptions { files })
+    Ok(MergeOptions {
+        files,
+        partial: values.partial,
+    })
 }
 
 /// The question that entries ask of outcomes.
@@ -287,6 +295,7 @@ pub fn named_options(
             workers: values.workers,
             show: values.show,
             reduce: values.reduce,
+            header: values.header,
             quiet: values.quiet,
         })),
         "live" => Ok(Options::Live(LiveOptions {
@@ -310,7 +319,7 @@ pub fn named_options(
             workers: values.workers,
         })),
         "survey" => Ok(Options::Survey(survey_options(alloc, matches, values)?)),
-        "merge" => Ok(Options::Merge(merge_options(alloc, matches)?)),
+        "merge" => Ok(Options::Merge(merge_options(alloc, matches, values)?)),
         "outcomes" => Ok(Options::Outcomes(outcomes_options(alloc, matches, values)?)),
         "complete" => Ok(Options::Complete(CompleteOptions {
             file: given(alloc, matches, "FILE")?,

@@ -158,6 +158,8 @@ pub struct TrialsOptions {
     pub show: Option<usize>,
     /// Whether of a violation that is shown only the events are that it needs.
     pub reduce: bool,
+    /// Whether the counts have a header.
+    pub header: bool,
     /// Whether no progress is shown.
     pub quiet: bool,
 }
@@ -223,11 +225,13 @@ pub struct SurveyOptions {
     pub complete: Option<usize>,
 }
 
-/// What `merge` is asked: the names of the texts.
+/// What `merge` is asked: the names of the texts, and whether some trials or lines may be missing.
 #[derive(Debug, Drop)]
 pub struct MergeOptions {
     /// The names of the texts, one at least.
     pub files: Vec<String>,
+    /// Whether what is missing between texts with headers is counted, not refused.
+    pub partial: bool,
 }
 
 /// What `live` is asked: the name of the program, the capacity of each buffer, how many steps may be taken, and how many
@@ -326,6 +330,8 @@ pub enum OptionRefusal {
 pub enum Misfit {
     /// `--each` reports all recordings, and `--show` one of them instead.
     EachWithShow,
+    /// `--header` says what is counted, and `--show` shows a trial instead.
+    HeaderWithShow,
     /// `--complete` counts what values come to, and `--show` shows a verdict instead.
     CompleteWithShow,
     /// `--reduce` cuts down what `--show` shows.
@@ -357,6 +363,9 @@ impl Display for Misfit {
         match self {
             Misfit::EachWithShow => {
                 f.write_str("error: the argument '--show <K>' cannot be used with '--each'")?;
+            }
+            Misfit::HeaderWithShow => {
+                f.write_str("error: the argument '--show <K>' cannot be used with '--header'")?;
             }
             Misfit::CompleteWithShow => {
                 f.write_str("error: the argument '--show <K>' cannot be used with '--complete'")?;

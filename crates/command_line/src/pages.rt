@@ -125,7 +125,10 @@ done and how many violations were found, until its end; with `--quiet` it shows 
 To look at a violation, give the same options and `--show K` with its number: then, instead
 of the counts, the trial's program is printed, an empty line, its recording and its verdict,
 as by `run`, and the exit status is that of `run`. With `--reduce` a violation is cut down
-first, as by `reduce`.",
+first, as by `reduce`.
+
+With `--header` the first line is the command that prints these counts, with all options
+that matter to them. By it `merge` knows which trials they are of.",
     statuses: "Exit status:
   0  no trial is a violation, and none is unfinished
   1  an error of the command line or memory, as standard error says
@@ -327,6 +330,11 @@ which they are named: counts are added, and `first violation: trial k` counts k 
 of them. So campaigns of n trials each with the seeds s, s + n, s + 2n, .. merge to the text
 of all trials from s on, whoever ran them, and where.
 
+Where texts begin with a header, as by `trials --header`, all do, of one campaign, in any
+order: each seed is in one of them, from the first to the last. The text of them all has a
+header, too. With `--partial` seeds may be missing: `missing N`, after the header, says how
+many, and the first violation is counted from the first seed, those that are missing, too.
+
 A text that no list of outcomes has is refused, with its file and its line: counts that
 don't add up, lengths of cycles out of order or past 512 or with a count of 0, or a first
 violation or refusal that its counts leave no room for.",
@@ -338,8 +346,9 @@ violation or refusal that its counts leave no room for.",
      violation, and at least one was refused
   4  of campaigns, no trial is a violation, and at least one is unfinished
 
-Example:
-  tsotest merge shards/*.txt",
+Examples:
+  tsotest merge shards/*.txt
+  tsotest merge shards/*.txt --partial",
 };
 
 const OUTCOMES: Page = Page {

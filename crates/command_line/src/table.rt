@@ -227,6 +227,20 @@ const LONG_RECORDING: ArgumentRow = ArgumentRow {
     help: "Takes up to 16777216 events of 1024 cores over 65536 addresses; not with --program",
 };
 
+const HEADER: ArgumentRow = ArgumentRow {
+    name: "header",
+    takes: Takes::Nothing,
+    value: "",
+    help: "Prints the command that prints these counts before them, so that `merge` knows them; not with --show",
+};
+
+const PARTIAL: ArgumentRow = ArgumentRow {
+    name: "partial",
+    takes: Takes::Nothing,
+    value: "",
+    help: "Adds up the trials or lines that are there, and prints how many are missing between them",
+};
+
 const QUIET: ArgumentRow = ArgumentRow {
     name: "quiet",
     takes: Takes::Nothing,
@@ -346,7 +360,7 @@ pub const COMMANDS: &[CommandRow] = &[
         name: "trials",
         arguments: &[
             CORES, OPS, ADDRESSES, SEED, TRIALS, ATTEMPTS, BUFFER, FAULT, WORKERS, SHOW, REDUCE,
-            QUIET, WORDS,
+            HEADER, QUIET, WORDS,
         ],
     },
     CommandRow {
@@ -389,7 +403,7 @@ pub const COMMANDS: &[CommandRow] = &[
     },
     CommandRow {
         name: "merge",
-        arguments: &[TEXTS, WORDS],
+        arguments: &[TEXTS, PARTIAL, WORDS],
     },
     CommandRow {
         name: "outcomes",

@@ -7,12 +7,13 @@ ghost use Rattle.command_line.specs.Options.{AreValuesAsked, IsNumber, MayBeNumb
 ghost use Rattle.command_line.specs.Refusals.{fault_refusal, number_refusal, refusal_of, refusal_of_show};
 ghost use Rattle.command_line.specs.Refusals.{shape_asked, sizes_refusal};
 
-use crate::entries::{fault_named, flag, maybe_text, number, number_or};
+use crate::entries::{flag, maybe_text, number, number_or};
 use crate::options::{
     ATTEMPTS, BUFFER, CYCLES, DEFAULT_FAULT, DEFAULT_SEED, LIMIT, Limits, OptionRefusal, RUNS,
     STATES, TRIALS, WORKERS,
 };
 use clap::ArgMatches;
+use headers::fault_named;
 use machine::Fault;
 use program::{Shape, is_outside};
 
@@ -29,6 +30,8 @@ pub struct Values {
     pub fault: Fault,
     pub show: Option<usize>,
     pub reduce: bool,
+    pub header: bool,
+    pub partial: bool,
     pub quiet: bool,
     pub all: bool,
     pub each: bool,
@@ -80,7 +83,7 @@ fn fault(matches: &ArgMatches<'_>) -> Result<Fault, OptionRefusal>
     let Some(name) = maybe_text(matches, "fault") else {
         return Ok(DEFAULT_FAULT);
     };
-    fault_named(name).ok_or(OptionRefusal::Fault)
+    fault_named(name.as_bytes()).ok_or(OptionRefusal::Fault)
 }
 
 /// What is to be shown: of a campaign, one of this many trials.
@@ -151,6 +154,8 @@ pub fn read_values(matches: &ArgMatches<'_>) -> Result<Values, OptionRefusal>
         fault,
         show,
         reduce: flag(matches, "reduce"),
+        header: flag(matches, "header"),
+        partial: flag(matches, "partial"),
         quiet: flag(matches, "quiet"),
         all: flag(matches, "all"),
         each: flag(matches, "each"),

@@ -1,3 +1,4 @@
 pub mod Printed
 pub mod Asking
 pub mod Given
+pub mod PartsJoin

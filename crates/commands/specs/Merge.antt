@@ -1,12 +1,22 @@
 -- What merge answers.
-use Rattle.std.specs.Prelude.{◌≡◌, ◌<◌, ◌+◌, ◌++◌, ◌∷◌, [], ℕ, List, Option, codes, decimal, false, length, map}
-use Rattle.std.specs.Prelude.{slice_index_or, string_bytes, take}
+use Rattle.std.specs.Prelude.{◌≡◌, ◌<◌, ◌+◌, ◌++◌, ◌∷◌, ◌==◌, ◌||◌, [], ℕ, Bool, List, Option, codes, decimal, false, length, map}
+use Rattle.std.specs.Prelude.{if◌then◌else◌, slice_index, slice_index_or, string_bytes, take, true}
 use Rattle.std.specs.List.{AllZip, concat}
 use Rattle.command_line.specs.declared.options.MergeOptions.{MergeOptions}
 use Rattle.ledger.specs.declared.ledger.Ledger.{Ledger}
+use Rattle.headers.specs.Headers.{header_line}
+use Rattle.ledger.specs.Counted.{count_line}
 use Rattle.ledger.specs.Counts.{IsLedger}
+use Rattle.merging.specs.declared.error.MergeError.{MergeError}
+use Rattle.merging.specs.declared.error.MergeError.TheVariants as errors
+use Rattle.merging.specs.declared.error.Seam.{Seam}
+use Rattle.merging.specs.declared.joined.Gaps.{Gaps}
+use Rattle.merging.specs.declared.joined.Gaps.TheVariants as gaps
+use Rattle.merging.specs.declared.joined.Joined.{Joined}
+use Rattle.merging.specs.Ordered.{AreJoined, IsNoJoin}
+use Rattle.merging.specs.Sections.{kind_of}
 use Rattle.merging.specs.declared.error.MergeRefusal.{MergeRefusal}
-use Rattle.merging.specs.declared.error.MergeRefusal.TheVariants.{NoLine, NoCodes, OtherKind, TooMany}
+use Rattle.merging.specs.declared.error.MergeRefusal.TheVariants.{NoLine, NoCodes, NoHeader, OtherCampaign, OtherKind, TooMany}
 use Rattle.merging.specs.declared.kind.Kind.{Kind}
 use Rattle.merging.specs.declared.kind.Kind.TheVariants.{Campaign, Survey}
 use Rattle.merging.specs.Merges.{Refuses}
@@ -15,6 +25,7 @@ use Rattle.verdicts.specs.declared.printed.Answer.{Answer}
 use Rattle.answers.specs.Campaign.{IsTrialsAnswer}
 use Rattle.answers.specs.Survey.{IsSurveyAnswer}
 use Rattle.inputs.specs.declared.command_error.CommandError.{CommandError}
+use Rattle.inputs.specs.declared.command_error.CommandError.TheVariants.{OutOfMemory}
 use Rattle.inputs.specs.declared.command_stop.CommandStop.{CommandStop}
 use Rattle.inputs.specs.declared.command_stop.CommandStop.TheVariants.{Refused, Failed}
 use Rattle.inputs.specs.Inputs.{AreBytesOf, IsInputError}
@@ -41,17 +52,48 @@ pub record IsMergeAnswer (texts : List (List ℕ)) (answer : Answer) : Type 0 wh
   pub only : (other : Kind) (others : List (List ℕ)) (l : Ledger) → AreFiles other others texts
       → IsLedger (concat others) l → IsMergedAnswer other l answer
 
+-- the line of how many are missing, where gaps are counted
+abbrev pub missing_line : Gaps → ℕ → List ℕ
+missing_line gaps.Refuse n = []
+missing_line gaps.Count n = count_line (codes "missing") n
+
+-- the header of what is joined, how many are missing, and the counts
+pub record IsJoinedAnswer (how : Gaps) (j : Joined) (answer : Answer) : Type 0 where
+  pub counts : Answer
+  pub counted : IsMergedAnswer (kind_of j.header.counted) j.ledger counts
+  pub outcome : answer.outcome ≡ counts.outcome
+  pub text : answer.text.items ≡ header_line j.header ++ (missing_line how j.missing ++ counts.text.items)
+
+-- the answer of texts with headers
+abbrev pub IsJoinAnswer : Gaps → List (List ℕ) → Answer → Type 0
+IsJoinAnswer how texts answer = (j : Joined) × AreJoined how texts j × IsJoinedAnswer how j answer
+
+-- whether texts have headers: the first begins with one, or gaps between them are counted
+abbrev pub is_headed : Bool → List (List ℕ) → Bool
+is_headed partial texts = partial || (slice_index (slice_index_or texts 0 []) 0 == 35)
+
+abbrev pub gaps_of : Bool → Gaps
+gaps_of partial = if partial then gaps.Count else gaps.Refuse
+
+-- the answer of texts
+abbrev pub IsAnswerOfTexts : Bool → Gaps → List (List ℕ) → Answer → Type 0
+IsAnswerOfTexts true how texts answer = IsJoinAnswer how texts answer
+IsAnswerOfTexts false how texts answer = IsMergeAnswer texts answer
+
 -- the answer of merge, whose texts are the bytes of the named inputs, in order
 abbrev pub IsMerged : (List ℕ → Option (List ℕ)) → MergeOptions → Answer → Type 0
 IsMerged inputs o answer = (texts : List (List ℕ))
-    × AllZip (AreBytesOf inputs) (map string_bytes o.files.items) texts × IsMergeAnswer texts answer
+    × AllZip (AreBytesOf inputs) (map string_bytes o.files.items) texts
+    × IsAnswerOfTexts (is_headed o.partial texts) (gaps_of o.partial) texts answer
 
 -- the name of the refusal of a text
 abbrev pub merge_refusal_name : MergeRefusal → List ℕ
 merge_refusal_name NoLine = codes "M1"
 merge_refusal_name NoCodes = codes "M2"
 merge_refusal_name OtherKind = codes "M3"
-merge_refusal_name TooMany = codes "M4"
+merge_refusal_name OtherCampaign = codes "M4"
+merge_refusal_name TooMany = codes "M7"
+merge_refusal_name NoHeader = codes "M8"
 
 -- the line that is printed for a line of the input of this name
 abbrev pub merge_line : MergeRefusal → ℕ → List ℕ → List ℕ
@@ -69,9 +111,46 @@ pub record IsRefusedMerge (names texts : List (List ℕ)) (printed : List ℕ) :
   pub none : (kind : Kind) (codes later : List (List ℕ)) → AreFiles kind codes (take (file + 1) texts ++ later)
       → Refuses refusal (length (concat codes))
 
--- why merge stops: a text is refused, or an input isn't read
+-- what a seam is between
+abbrev pub seam_noun : Kind → List ℕ
+seam_noun Campaign = codes "seeds "
+seam_noun Survey = codes "lines "
+
+-- the seeds or lines of a seam
+abbrev pub seam_range : Seam → List ℕ
+seam_range seam = seam_noun seam.kind ++ decimal seam.from ++ codes " to " ++ decimal seam.to
+
+-- the line that is printed where texts with headers, in files of these names, are not joined
+abbrev pub join_line : List (List ℕ) → MergeError → List ℕ
+join_line names (errors.Refused OtherCampaign file line) =
+    codes "refused: M4 line " ++ decimal line ++ codes " of " ++ slice_index_or names file [] ++ codes " beside "
+    ++ slice_index_or names 0 [] ++ 10 ∷ []
+join_line names (errors.Refused refusal file line) = merge_line refusal line (slice_index_or names file [])
+join_line names (errors.Gap seam) =
+    codes "refused: M5 " ++ seam_range seam ++ codes " between " ++ slice_index_or names seam.file [] ++ codes " and "
+    ++ slice_index_or names seam.other [] ++ 10 ∷ []
+join_line names (errors.Overlap seam) =
+    codes "refused: M6 " ++ seam_range seam ++ codes " of " ++ slice_index_or names seam.file [] ++ codes " and "
+    ++ slice_index_or names seam.other [] ++ 10 ∷ []
+join_line names errors.OutOfMemory = []
+
+-- texts with headers are not joined, and it is printed why
+abbrev pub IsRefusedJoin : List (List ℕ) → List (List ℕ) → List ℕ → Type 0
+IsRefusedJoin names texts printed = (error : MergeError) × IsNoJoin texts error × (printed ≡ join_line names error)
+
+-- texts are refused
+abbrev pub AreRefused : Bool → List (List ℕ) → List (List ℕ) → List ℕ → Type 0
+AreRefused true names texts printed = IsRefusedJoin names texts printed
+AreRefused false names texts printed = IsRefusedMerge names texts printed
+
+-- why merge stops: the texts are refused, or an input isn't read
 abbrev pub IsMergeStop : (List ℕ → Option (List ℕ)) → MergeOptions → CommandStop → Type 0
 IsMergeStop inputs o (Refused refusal) = (texts : List (List ℕ))
     × AllZip (AreBytesOf inputs) (map string_bytes o.files.items) texts
-    × IsRefusedMerge (map string_bytes o.files.items) texts (string_bytes refusal.line)
+    × AreRefused (is_headed o.partial texts) (map string_bytes o.files.items) texts (string_bytes refusal.line)
 IsMergeStop inputs o (Failed error) = IsErrorAmong inputs (map string_bytes o.files.items) error
+
+-- texts are refused, or there is no memory
+abbrev pub IsTextsStop : Bool → List (List ℕ) → List (List ℕ) → CommandStop → Type 0
+IsTextsStop headed names texts (Refused refusal) = AreRefused headed names texts (string_bytes refusal.line)
+IsTextsStop headed names texts (Failed error) = error ≡ OutOfMemory

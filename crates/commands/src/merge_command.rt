@@ -1,19 +1,24 @@
 //! The command `merge`.
-ghost use Rattle.std.specs.Prelude.{◌≡◌, ◌<◌, IfErr, IfOk, length, map, string_bytes};
+ghost use Rattle.std.specs.Prelude.{◌≡◌, ◌<◌, ◌++◌, [], IfErr, IfOk, OnOk, false, length, map, slice_index_or};
+ghost use Rattle.std.specs.Prelude.{string_bytes, true};
 ghost use Rattle.std.specs.List.{AllZip};
 ghost use Rattle.inputs.specs.Inputs.{AreBytesOf, CanRead, ReadsNamed};
-ghost use Rattle.commands.specs.Merge.{IsErrorAmong, IsMerged, IsMergedAnswer, IsMergeStop, merge_line};
-ghost use Rattle.commands.specs.Merge.{merge_refusal_name};
+ghost use Rattle.commands.specs.Merge.{IsErrorAmong, IsJoinAnswer, IsJoinedAnswer, IsMergeAnswer, IsMerged};
+ghost use Rattle.commands.specs.Merge.{IsMergedAnswer, IsMergeStop, IsTextsStop, gaps_of, is_headed, join_line};
+ghost use Rattle.commands.specs.Merge.{merge_line, merge_refusal_name, missing_line, seam_noun, seam_range};
 ghost use Rattle.inputs.specs.Refusal.{IsFailure};
 
 use answers::{survey_answer, trials_answer};
 use command_line::MergeOptions;
 use common::OutOfMemory;
 use devices::Host;
+use headers::put_header;
 use inputs::{CommandError, CommandStop, PrintedRefusal, quoted, text_at};
-use merging::{Kind, MergeError, MergeRefusal, Merged, merge};
+use ledger::Ledger;
+use merging::{Gaps, Joined, Kind, MergeError, MergeRefusal, Seam, join, kind_of, merge};
 use report::Answer;
 use std::alloc::{AllocError, Global};
+use texts::{put_text, put_text_and_number};
 
 /// All bytes of the inputs of these names, in order.
 fn texts_at<H: Host>(
@@ -41,12 +46,12 @@ fn texts_at<H: Host>(
 }
 
 /// What is answered to the counts of several texts.
-fn merged_answer(alloc: Global, merged: &Merged) -> Result<Answer, OutOfMemory>
-    ensures { IfOk result (IsMergedAnswer merged.now.kind merged.now.ledger) }
+fn merged_answer(alloc: Global, kind: Kind, ledger: &Ledger) -> Result<Answer, OutOfMemory>
+    ensures { IfOk result (IsMergedAnswer kind ledger.now) }
 {
-    match merged.kind {
-        Kind::Campaign => trials_answer(alloc, &merged.ledger),
-        Kind::Survey => survey_answer(alloc, &merged.ledger, false),
+    match kind {
+        Kind::Campaign => trials_answer(alloc, ledger),
+        Kind::Survey => survey_answer(alloc, ledger, false),
     }
 }
 
@@ -58,25 +63,202 @@ fn merge_refusal_name(refusal: MergeRefusal) -> &'static str
         MergeRefusal::NoLine => "M1",
         MergeRefusal::NoCodes => "M2",
         MergeRefusal::OtherKind => "M3",
-        MergeRefusal::TooMany => "M4",
+        MergeRefusal::OtherCampaign => "M4",
+        MergeRefusal::TooMany => "M7",
+        MergeRefusal::NoHeader => "M8",
     }
 }
 
-/// What is printed for a line of the input of this name, with the line itself.
+/// What is printed for a line of the input of this name.
 fn merge_refusal(
     alloc: Global,
     refusal: MergeRefusal,
     line: usize,
     name: &str,
-    text: &[u8],
-) -> Result<PrintedRefusal, AllocError>
-    ensures { IfOk result (λ printed. string_bytes printed.line ≡ merge_line refusal line name.now) }
+) -> Result<String, AllocError>
+    ensures { IfOk result (λ printed. string_bytes printed ≡ merge_line refusal line name.now) }
 {
     let number = merge_refusal_name(refusal);
-    Ok(PrintedRefusal {
-        line: format!(in alloc; "refused: {number} line {line} of {name}\n")?,
-        quote: Some(quoted(alloc, text, line)?),
+    format!(in alloc; "refused: {number} line {line} of {name}\n")
+}
+
+/// The name of a file, of which there are these; the empty one past the last.
+fn name_at(names: &[String], file: usize) -> &str
+    ensures { result.now ≡ slice_index_or (map string_bytes names.now) file [] }
+{
+    match names.get(file) {
+        Some(name) => name.as_str(),
+        None => "",
+    }
+}
+
+/// A line of a file, as a person is shown it, where there is such a file.
+fn quote_of(
+    alloc: Global,
+    file: usize,
+    line: usize,
+    texts: &[Vec<u8>],
+) -> Result<Option<String>, AllocError> {
+    match texts.get(file) {
+        Some(text) => Ok(Some(quoted(alloc, text.as_slice(), line)?)),
+        None => Ok(None),
+    }
+}
+
+/// Adds up the counts of texts without headers, which are those of files of these names.
+fn merged_texts(alloc: Global, names: &[String], texts: &[Vec<u8>]) -> Result<Answer, CommandStop>
+    requires some { 0 < length texts.now }
+    requires named { length names.now ≡ length texts.now }
+    ensures ok { IfOk result (IsMergeAnswer (map (λ v. v.items) texts.now)) }
+    ensures err { IfErr result (IsTextsStop false (map string_bytes names.now) (map (λ v. v.items) texts.now)) }
+{
+    match merge(alloc, texts) {
+        Ok(merged) => Ok(merged_answer(alloc, merged.kind, &merged.ledger)?),
+        Err(
+            MergeError::Refused {
+                refusal,
+                file,
+                line,
+            },
+        ) => {
+            let printed = merge_refusal(alloc, refusal, line, name_at(names, file))?;
+            let quote = quote_of(alloc, file, line, texts)?;
+            Err(CommandStop::Refused(PrintedRefusal {
+                line: printed,
+                quote,
+            }))
+        }
+        Err(_) => Err(CommandStop::Failed(CommandError::OutOfMemory)),
+    }
+}
+
+/// Adds the line of how many are missing, where gaps are counted.
+fn put_missing(out: &mut Vec<u8>, gaps: Gaps, missing: u64) -> Result<(), OutOfMemory>
+    ensures { OnOk result (out.new.items ≡ out.old.items ++ missing_line gaps missing) }
+{
+    match gaps {
+        Gaps::Refuse => Ok(()),
+        Gaps::Count => {
+            put_text_and_number(out, b"missing ", missing as usize)?;
+            put_text(out, b"\n")
+        }
+    }
+}
+
+/// What is answered to the counts of texts with headers.
+fn joined_answer(alloc: Global, gaps: Gaps, joined: &Joined) -> Result<Answer, OutOfMemory>
+    ensures { IfOk result (IsJoinedAnswer gaps joined.now) }
+{
+    let counts = merged_answer(alloc, kind_of(&joined.header.counted), &joined.ledger)?;
+    let mut text = Vec::new(alloc);
+    put_header(&mut text, &joined.header)?;
+    put_missing(&mut text, gaps, joined.missing)?;
+    put_text(&mut text, &counts.text)?;
+    Ok(Answer {
+        outcome: counts.outcome,
+        text,
     })
+}
+
+/// What seeds or lines are called.
+fn seam_noun(kind: Kind) -> &'static str
+    ensures { result.now ≡ seam_noun kind }
+{
+    match kind {
+        Kind::Campaign => "seeds ",
+        Kind::Survey => "lines ",
+    }
+}
+
+/// The seeds or lines of a seam.
+fn seam_range(alloc: Global, seam: Seam) -> Result<String, AllocError>
+    ensures { IfOk result (λ text. string_bytes text ≡ seam_range seam) }
+{
+    let noun = seam_noun(seam.kind);
+    let from = seam.from;
+    let to = seam.to;
+    format!(in alloc; "{noun}{from} to {to}")
+}
+
+/// What is printed where texts with headers are not joined, whose files have these names.
+fn join_refusal(alloc: Global, error: MergeError, names: &[String]) -> Result<String, AllocError>
+    ensures { IfOk result (λ line. string_bytes line ≡ join_line (map string_bytes names.now) error) }
+{
+    match error {
+        MergeError::Refused {
+            refusal,
+            file,
+            line,
+        } => {
+            let number = merge_refusal_name(refusal);
+            let name = name_at(names, file);
+            if refusal == MergeRefusal::OtherCampaign {
+                let first = name_at(names, 0);
+                return format!(in alloc;
+                    "refused: {number} line {line} of {name} beside {first}\n"
+                );
+            }
+            format!(in alloc; "refused: {number} line {line} of {name}\n")
+        }
+        MergeError::Gap(seam) => {
+            let range = seam_range(alloc, seam)?;
+            let name = name_at(names, seam.file);
+            let other = name_at(names, seam.other);
+            format!(in alloc; "refused: M5 {range} between {name} and {other}\n")
+        }
+        MergeError::Overlap(seam) => {
+            let range = seam_range(alloc, seam)?;
+            let name = name_at(names, seam.file);
+            let other = name_at(names, seam.other);
+            format!(in alloc; "refused: M6 {range} of {name} and {other}\n")
+        }
+        MergeError::OutOfMemory => Ok(String::new(alloc)),
+    }
+}
+
+/// Adds up the counts of texts with headers, which are those of files of these names.
+fn joined_texts(
+    alloc: Global,
+    names: &[String],
+    texts: &[Vec<u8>],
+    gaps: Gaps,
+) -> Result<Answer, CommandStop>
+    requires some { 0 < length texts.now }
+    ensures ok { IfOk result (IsJoinAnswer gaps (map (λ v. v.items) texts.now)) }
+    ensures err { IfErr result (IsTextsStop true (map string_bytes names.now) (map (λ v. v.items) texts.now)) }
+{
+    match join(alloc, texts, gaps) {
+        Ok(joined) => Ok(joined_answer(alloc, gaps, &joined)?),
+        Err(MergeError::OutOfMemory) => Err(CommandStop::Failed(CommandError::OutOfMemory)),
+        Err(error) => {
+            let line = join_refusal(alloc, error, names)?;
+            let quote = match error {
+                MergeError::Refused { file, line, .. } => quote_of(alloc, file, line, texts)?,
+                _ => None,
+            };
+            Err(CommandStop::Refused(PrintedRefusal { line, quote }))
+        }
+    }
+}
+
+/// Whether texts have headers.
+fn is_headed(partial: bool, texts: &[Vec<u8>]) -> bool
+    ensures { result ≡ is_headed partial (map (λ v. v.items) texts.now) }
+{
+    if partial {
+        return true;
+    }
+    match texts.first() {
+        Some(text) => text.first() == Some(&b'#'),
+        None => false,
+    }
+}
+
+/// What is done where seeds or lines are missing between texts.
+fn gaps_of(partial: bool) -> Gaps
+    ensures { result ≡ gaps_of partial }
+{
+    if partial { Gaps::Count } else { Gaps::Refuse }
 }
 
 /// Adds up the counts of the campaigns, or of the surveys, whose texts the named inputs are.
@@ -95,19 +277,8 @@ pub fn merge_command<H: Host>(
         Ok(texts) => texts,
         Err(stop) => return Err(stop),
     };
-    match merge(alloc, &texts) {
-        Ok(merged) => Ok(merged_answer(alloc, &merged)?),
-        Err(MergeError::OutOfMemory) => Err(CommandStop::Failed(CommandError::OutOfMemory)),
-        Err(
-            MergeError::Refused {
-                refusal,
-                file,
-                line,
-            },
-        ) => {
-            let name = options.files[file].as_str();
-            let text = texts[file].as_slice();
-            Err(CommandStop::Refused(merge_refusal(alloc, refusal, line, name, text)?))
-        }
+    if is_headed(options.partial, &texts) {
+        return joined_texts(alloc, &options.files, &texts, gaps_of(options.partial));
     }
+    merged_texts(alloc, &options.files, &texts)
 }

@@ -116,6 +116,8 @@ pub file_fault : (kind : Kind) (sum : Ledger) (files : List (List ℕ)) (first :
 file_fault kind sum files first i OutOfMemory error low at only h fault located =
     subst (IsMergingError files) (sym located) tt
 file_fault kind sum files first i (Refused refusal left) errors.OutOfMemory low at only h fault located = absurd located
+file_fault kind sum files first i (Refused refusal left) (errors.Gap seam) low at only h fault located = absurd located
+file_fault kind sum files first i (Refused refusal left) (errors.Overlap seam) low at only h fault located = absurd located
 file_fault kind sum files first i (Refused refusal left) (errors.Refused same j line) low at only h fault located = (
   omega (arith, low, located.1),
   λ k codes later are.

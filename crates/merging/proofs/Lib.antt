@@ -5,3 +5,7 @@ pub mod WholeTexts
 pub mod UnderWay
 pub mod Files
 pub mod TextOfLemmas
+pub mod HeaderTexts
+pub mod Orders
+pub mod SectionTexts
+pub mod SectionFiles

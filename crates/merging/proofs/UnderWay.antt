@@ -5,7 +5,7 @@ use Rattle.std.specs.List.{concat}
 use Rattle.ledger.specs.declared.ledger.Ledger.{Ledger}
 use Rattle.ledger.specs.Counts.{IsLedger}
 use Rattle.merging.specs.declared.error.MergeRefusal.{MergeRefusal}
-use Rattle.merging.specs.declared.error.MergeRefusal.TheVariants.{NoLine, NoCodes, OtherKind, TooMany}
+use Rattle.merging.specs.declared.error.MergeRefusal.TheVariants.{NoLine, NoCodes, OtherKind, TooMany, OtherCampaign, NoHeader}
 use Rattle.merging.specs.declared.error.TextError.{TextError}
 use Rattle.merging.specs.declared.error.TextError.TheVariants.{Refused, OutOfMemory}
 use Rattle.merging.specs.declared.kind.Kind.{Kind}
@@ -102,6 +102,8 @@ refuses_more TooMany m n within is = omega (arith, within, is)
 refuses_more NoLine m n within is = is
 refuses_more NoCodes m n within is = is
 refuses_more OtherKind m n within is = is
+refuses_more OtherCampaign m n within is = is
+refuses_more NoHeader m n within is = is
 
 -- a fault of a text is one of its file
 pub text_fault : (kind : Kind) (old mid : Ledger) (bytes rest : List ℕ) (fault : TextError) (codes : List ℕ) → rest ≢ []

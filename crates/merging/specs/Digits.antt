@@ -1,7 +1,10 @@
--- Digits of a text.
-use Rattle.std.specs.Prelude.{◌≡◌, ℕ, false}
+-- Digits and spaces of a text.
+use Rattle.std.specs.Prelude.{◌≡◌, ◌==◌, ℕ, Bool, false}
 use Rattle.program.specs.Numbers.{is_digit}
 
 -- a byte that is not from 0 to 9
 abbrev pub IsNoDigit : ℕ → Type 0
 IsNoDigit b = is_digit b ≡ false
+
+abbrev pub is_space : ℕ → Bool
+is_space b = b == 32

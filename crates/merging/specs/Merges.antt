@@ -6,7 +6,7 @@ use Rattle.ledger.specs.Counts.{IsLedger}
 use Rattle.merging.specs.declared.error.MergeError.{MergeError}
 use Rattle.merging.specs.declared.error.MergeError.TheVariants as errors
 use Rattle.merging.specs.declared.error.MergeRefusal.{MergeRefusal}
-use Rattle.merging.specs.declared.error.MergeRefusal.TheVariants.{NoLine, NoCodes, OtherKind, TooMany}
+use Rattle.merging.specs.declared.error.MergeRefusal.TheVariants.{NoLine, NoCodes, OtherKind, TooMany, OtherCampaign, NoHeader}
 use Rattle.merging.specs.declared.error.TextError.{TextError}
 use Rattle.merging.specs.declared.error.TextError.TheVariants.{Refused, OutOfMemory}
 use Rattle.merging.specs.declared.kind.Kind.{Kind}
@@ -20,6 +20,8 @@ Refuses TooMany count = 2 ^ 64 ≤ count
 Refuses NoLine count = ⊥
 Refuses NoCodes count = ⊥
 Refuses OtherKind count = ⊥
+Refuses OtherCampaign count = ⊥
+Refuses NoHeader count = ⊥
 
 -- a ledger is read, and it tells of all codes with whose text the bytes begin
 pub record IsTextRead (kind : Kind) (before after : List ℕ) (ledger : Ledger) : Type 0 where
@@ -76,6 +78,8 @@ pub record IsMerge (files : List (List ℕ)) (m : Merged) : Type 0 where
 -- no memory
 abbrev pub IsMergingError : List (List ℕ) → MergeError → Type 0
 IsMergingError files errors.OutOfMemory = ⊤
+IsMergingError files (errors.Gap seam) = ⊥
+IsMergingError files (errors.Overlap seam) = ⊥
 IsMergingError files (errors.Refused refusal file line) = (file < length files)
     × ((kind : Kind) (codes later : List (List ℕ)) → AreFiles kind codes (take (file + 1) files ++ later)
     → Refuses refusal (length (concat codes)))
@@ -84,4 +88,6 @@ IsMergingError files (errors.Refused refusal file line) = (file < length files)
 abbrev pub IsLocated : TextError → ℕ → MergeError → Type 0
 IsLocated OutOfMemory file error = error ≡ errors.OutOfMemory
 IsLocated (Refused refusal left) file errors.OutOfMemory = ⊥
+IsLocated (Refused refusal left) file (errors.Gap seam) = ⊥
+IsLocated (Refused refusal left) file (errors.Overlap seam) = ⊥
 IsLocated (Refused refusal left) file (errors.Refused same at line) = (same ≡ refusal) × (at ≡ file)

@@ -1,9 +1,15 @@
 -- The parts of a text.
-use Rattle.std.specs.Prelude.{◌≡◌, ◌⊎◌, ◌+◌, ◌++◌, ◌∷◌, ◌<◌, ◌^◌, ◌==◌, [], ℕ, List, Option, None, Some, IfSome}
+use Rattle.std.specs.Prelude.{◌≡◌, ◌⊎◌, ◌+◌, ◌++◌, ◌∷◌, ◌<◌, ◌^◌, ◌==◌, [], ℕ, List, Option, None, Some, IfSome, ⊤}
 use Rattle.std.specs.Prelude.{codes, decimal, if◌then◌else◌, length, slice_index}
 use Rattle.common.specs.declared.limits.TheConstants.{MAX_EVENTS}
 use Rattle.ledger.specs.declared.ledger.Ledger.{Ledger}
 use Rattle.ledger.specs.Counted.{count_line, first_line}
+use Rattle.machine.specs.declared.fault.Fault.{Fault}
+use Rattle.headers.specs.declared.header.Counted.{Counted}
+use Rattle.headers.specs.declared.header.Counted.TheVariants as counted
+use Rattle.headers.specs.declared.header.Setup.{Setup}
+use Rattle.headers.specs.Faults.{fault_name}
+use Rattle.headers.specs.Headers.{option_words}
 use Rattle.merging.specs.declared.kind.Kind.{Kind}
 use Rattle.merging.specs.declared.kind.Kind.TheVariants.{Campaign, Survey}
 use Rattle.merging.specs.Texts.{all_name, noun, unjudged_name}
@@ -64,3 +70,28 @@ place_beside first unjudged = if unjudged == 0 then None else Some (other_place 
 abbrev pub place_read : Kind → Option ℕ → Option ℕ → Option ℕ
 place_read Campaign other told = other
 place_read Survey other told = told
+
+-- the sizes of programs as a header has them, and what stands after them
+abbrev pub sizes_then : ℕ → ℕ → ℕ → List ℕ → List ℕ
+sizes_then cores ops addresses more =
+    option_words (codes "# tsotest trials --cores ") cores ++ (option_words (codes " --ops ") ops
+    ++ (option_words (codes " --addresses ") addresses ++ more))
+
+-- the fault, the buffer and the attempts as a header has them, and what stands after the words up to the seed
+abbrev pub machine_then : Fault → ℕ → ℕ → List ℕ → List ℕ
+machine_then fault buffer attempts more =
+    codes " --fault " ++ (fault_name fault ++ (option_words (codes " --buffer ") buffer
+    ++ (option_words (codes " --attempts ") attempts ++ (codes " --seed " ++ more))))
+
+-- the numbers that campaigns have in common have 64 bits
+pub record Is64BitSetup (s : Setup) : Type 0 where
+  pub cores : s.cores < 2 ^ 64
+  pub ops : s.ops < 2 ^ 64
+  pub addresses : s.addresses < 2 ^ 64
+  pub buffer : s.buffer < 2 ^ 64
+  pub attempts : s.attempts < 2 ^ 64
+
+-- and so, where there are such
+abbrev pub Is64BitCounted : Counted → Type 0
+Is64BitCounted (counted.Campaign s) = Is64BitSetup s
+Is64BitCounted counted.Survey = ⊤

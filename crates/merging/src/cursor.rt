@@ -3,7 +3,8 @@
 ghost use Rattle.std.specs.Prelude.{◌≡◌, ◌<◌, ◌≤◌, ◌^◌, ◌++◌, ◌∷◌, ℕ, List, Some, decimal, false, length, slice_index};
 ghost use Rattle.std.specs.Prelude.{true};
 ghost use Rattle.program.specs.Numbers.{is_digit};
-ghost use Rattle.merging.specs.Digits.{IsNoDigit};
+ghost use Rattle.std.specs.Prelude.{position};
+ghost use Rattle.merging.specs.Digits.{IsNoDigit, is_space};
 
 use itoa::Buffer;
 use std::marker::Model;
@@ -44,6 +45,13 @@ fn leading(text: &[u8]) -> Option<usize>
     number_of(&text[..end])
 }
 
+/// The place of the first space of a text, if it has one.
+fn space(text: &[u8]) -> Option<usize>
+    ensures { result ≡ position is_space text.now }
+{
+    text.iter().position(|byte| *byte == b' ')
+}
+
 /// What is left of a text.
 #[derive(Drop)]
 pub(crate) struct Cursor<'a> {
@@ -61,7 +69,8 @@ impl<'a> Model for Cursor<'a> {
 impl<'a> Cursor<'a> {
     ghost use Rattle.std.specs.Prelude.{◌≡◌, ◌<◌, ◌^◌, ◌++◌, ◌∷◌, ◌↔◌, [], ℕ, List, Some, IfSome, IsTrue, decimal};
     ghost use Rattle.std.specs.Prelude.{None, codes, false, length};
-    ghost use Rattle.merging.specs.Digits.{IsNoDigit};
+    ghost use Rattle.std.specs.Prelude.{MatchOption, position};
+    ghost use Rattle.merging.specs.Digits.{IsNoDigit, is_space};
 
     /// A whole text.
     pub(crate) fn new(text: &'a [u8]) -> Cursor<'a>
@@ -105,6 +114,28 @@ impl<'a> Cursor<'a> {
             Some(rest) => leading(rest),
             None => None,
         }
+    }
+
+    /// What is left.
+    pub(crate) fn rest(&self) -> &'a [u8]
+        ensures { result.now ≡ self.now }
+    {
+        self.rest
+    }
+
+    /// Takes what stands before the next space, if there is one.
+    pub(crate) fn word(&mut self) -> Option<&'a [u8]>
+        ensures found { IfSome result (λ word. self.old ≡ word.now ++ self.new) }
+        ensures only { (word more : List ℕ) → position is_space word ≡ None → self.old ≡ word ++ 32 ∷ more
+            → MatchOption result ⊥ (λ w. w.now ≡ word) × (self.new ≡ 32 ∷ more) }
+    {
+        let text = self.rest;
+        let Some(end) = space(text) else {
+            return None;
+        };
+        let (word, rest) = text.split_at(end);
+        self.rest = rest;
+        Some(word)
     }
 
     /// Takes the number of 64 bits that stands next, if one does.

@@ -1,5 +1,6 @@
 //! Why texts are not added up.
 
+use crate::kind::Kind;
 use common::OutOfMemory;
 
 /// Why a text is refused.
@@ -11,8 +12,12 @@ pub enum MergeRefusal {
     NoCodes,
     /// M3: a text is of the other kind than the first.
     OtherKind,
-    /// M4: with a text there are 2^64 or more.
+    /// M4: a text is of another campaign than the first.
+    OtherCampaign,
+    /// M7: with a text there are 2^64 or more.
     TooMany,
+    /// M8: a text has no header.
+    NoHeader,
 }
 
 /// Why a text is not added: a refusal, with how many bytes are left from the line at fault on, or that memory ran out.
@@ -40,6 +45,21 @@ impl From<OutOfMemory> for TextError {
     }
 }
 
+/// Seeds or lines that are missing between two texts, or that two have.
+#[derive(Clone, Copy, Debug, Drop, PartialEq, Eq)]
+pub struct Seam {
+    /// The first of them.
+    pub from: u64,
+    /// The last of them.
+    pub to: u64,
+    /// The number of the file of the text with the lesser ones, from 0.
+    pub file: usize,
+    /// That of the other.
+    pub other: usize,
+    /// Whether they are seeds or lines.
+    pub kind: Kind,
+}
+
 /// Why texts are not added up.
 #[derive(Clone, Copy, Debug, Drop, PartialEq, Eq)]
 pub enum MergeError {
@@ -52,6 +72,10 @@ pub enum MergeError {
         /// The line at fault, from 1.
         line: usize,
     },
+    /// M5: some are missing between two texts.
+    Gap(Seam),
+    /// M6: two texts have the same.
+    Overlap(Seam),
     /// There is no memory.
     OutOfMemory,
 }

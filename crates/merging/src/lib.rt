@@ -4,11 +4,16 @@
 mod cursor;
 mod cycles;
 mod error;
+mod header;
+mod joined;
 mod kind;
 mod lines;
 mod merged;
+mod sections;
 mod text;
 
-pub use error::{MergeError, MergeRefusal};
+pub use error::{MergeError, MergeRefusal, Seam};
+pub use joined::{Gaps, Joined, join};
 pub use kind::Kind;
 pub use merged::{Merged, merge};
+pub use sections::kind_of;

@@ -1,6 +1,6 @@
 //! Texts as one.
 
-ghost use Rattle.std.specs.Prelude.{◌≡◌, ◌<◌, IfErr, IfOk, length, map};
+ghost use Rattle.std.specs.Prelude.{◌≡◌, ◌<◌, IfErr, IfOk, [], length, map, slice_index_or};
 ghost use Rattle.ledger.specs.Real.{HasCodes};
 ghost use Rattle.merging.specs.Merges.{IsFileAdded, IsFileError, IsMerge, IsMergingError, IsTextAdded};
 ghost use Rattle.merging.specs.Merges.{IsLedgerTextError, IsLocated};
@@ -9,6 +9,7 @@ use crate::cursor::Cursor;
 use crate::error::{MergeError, MergeRefusal, TextError};
 use crate::kind::Kind;
 use crate::text::read;
+use common::OutOfMemory;
 use ledger::Ledger;
 use std::alloc::Global;
 
@@ -69,14 +70,14 @@ fn add_file(alloc: Global, kind: Kind, sum: &mut Ledger, bytes: &[u8]) -> Result
 }
 
 /// The line of a text, from 1, from which on this many bytes are left.
-fn line_at(text: &[u8], left: usize) -> usize {
+pub(crate) fn line_at(text: &[u8], left: usize) -> usize {
     let before = text.len().saturating_sub(left);
     let ends = text.iter().take(before).filter(|byte| **byte == b'\n');
     ends.count().wrapping_add(1)
 }
 
 /// A fault of a file, with its number and its line.
-fn located(fault: TextError, file: usize, text: &[u8]) -> MergeError
+pub(crate) fn located(fault: TextError, file: usize, text: &[u8]) -> MergeError
     ensures { IsLocated fault file result }
 {
     match fault {
@@ -89,6 +90,47 @@ fn located(fault: TextError, file: usize, text: &[u8]) -> MergeError
     }
 }
 
+/// One of several texts; none past the last.
+fn text_at<'a>(texts: &[&'a [u8]], place: usize) -> &'a [u8]
+    ensures { result.now ≡ slice_index_or (map (λ t. t.now) texts.now) place [] }
+{
+    match texts.get(place) {
+        Some(text) => *text,
+        None => &[],
+    }
+}
+
+/// The counts of all these texts, of which each is one or more and all are of one kind; or the first refusal, in the order
+/// in which they are read.
+pub(crate) fn merge_texts(alloc: Global, files: &[&[u8]]) -> Result<Merged, MergeError>
+    requires { 0 < length files.now }
+    ensures ok { IfOk result (IsMerge (map (λ v. v.now) files.now)) }
+    ensures err { IfErr result (IsMergingError (map (λ v. v.now) files.now)) }
+{
+    let kind = Kind::of(text_at(files, 0));
+    let Ok(mut sum) = Ledger::count(alloc, &[]) else {
+        return Err(MergeError::OutOfMemory);
+    };
+    for i in 0..files.len() {
+        let bytes = text_at(files, i);
+        if let Err(fault) = add_file(alloc, kind, &mut sum, bytes) {
+            return Err(located(fault, i, bytes));
+        }
+    }
+    Ok(Merged { kind, ledger: sum })
+}
+
+/// All bytes of each file.
+fn slices<'a>(alloc: Global, files: &'a [Vec<u8>]) -> Result<Vec<&'a [u8]>, OutOfMemory>
+    ensures { IfOk result (λ v. map (λ t. t.now) v.items ≡ map (λ v. v.items) files.now) }
+{
+    let mut slices = Vec::new(alloc);
+    for file in files {
+        slices.push(file.as_slice())?;
+    }
+    Ok(slices)
+}
+
 /// The counts of all texts of these files, of which each has one or more and all are of one kind; or the first refusal,
 /// in the order in which they are read.
 pub fn merge(alloc: Global, files: &[Vec<u8>]) -> Result<Merged, MergeError>
@@ -96,15 +138,8 @@ pub fn merge(alloc: Global, files: &[Vec<u8>]) -> Result<Merged, MergeError>
     ensures ok { IfOk result (IsMerge (map (λ v. v.items) files.now)) }
     ensures err { IfErr result (IsMergingError (map (λ v. v.items) files.now)) }
 {
-    let kind = Kind::of(files[0].as_slice());
-    let Ok(mut sum) = Ledger::count(alloc, &[]) else {
+    let Ok(texts) = slices(alloc, files) else {
         return Err(MergeError::OutOfMemory);
     };
-    for i in 0..files.len() {
-        let bytes = files[i].as_slice();
-        if let Err(fault) = add_file(alloc, kind, &mut sum, bytes) {
-            return Err(located(fault, i, bytes));
-        }
-    }
-    Ok(Merged { kind, ledger: sum })
+    merge_texts(alloc, &texts)
 }
