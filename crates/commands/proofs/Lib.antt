@@ -1,4 +1,4 @@
 pub mod Printed
 pub mod Asking
 pub mod Given
-pub mod PartsJoin
+pub mod Merging

@@ -5,7 +5,6 @@ pub mod Run
 pub mod Render
 pub mod Survey
 pub mod Merge
-pub mod Parts
 pub mod Outcomes
 pub mod Complete
 pub mod Make

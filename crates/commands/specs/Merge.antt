@@ -95,10 +95,14 @@ merge_refusal_name OtherCampaign = codes "M4"
 merge_refusal_name TooMany = codes "M7"
 merge_refusal_name NoHeader = codes "M8"
 
+-- what is printed for a line of the input of this name, up to the end of the printed line
+abbrev pub merge_head : MergeRefusal → ℕ → List ℕ → List ℕ
+merge_head refusal line name = codes "refused: " ++ merge_refusal_name refusal ++ codes " line " ++ decimal line
+    ++ codes " of " ++ name
+
 -- the line that is printed for a line of the input of this name
 abbrev pub merge_line : MergeRefusal → ℕ → List ℕ → List ℕ
-merge_line refusal line name = codes "refused: " ++ merge_refusal_name refusal ++ codes " line " ++ decimal line
-    ++ codes " of " ++ name ++ 10 ∷ []
+merge_line refusal line name = merge_head refusal line name ++ 10 ∷ []
 
 -- the texts up to that of one of the names are those of no lists of codes, or of 2^64 codes or more, whatever
 -- comes after them; which of its lines is named no clause says
@@ -116,22 +120,36 @@ abbrev pub seam_noun : Kind → List ℕ
 seam_noun Campaign = codes "seeds "
 seam_noun Survey = codes "lines "
 
--- the seeds or lines of a seam
-abbrev pub seam_range : Seam → List ℕ
-seam_range seam = seam_noun seam.kind ++ decimal seam.from ++ codes " to " ++ decimal seam.to
+-- what is printed for a seam, up to the names of files
+abbrev pub seam_head : List ℕ → Seam → List ℕ
+seam_head number seam = codes "refused: " ++ number ++ codes " " ++ seam_noun seam.kind ++ decimal seam.from
+    ++ codes " to " ++ decimal seam.to
+
+-- the line that is printed for a text of another campaign than that of the first file
+abbrev pub other_line : List ℕ → List ℕ → List ℕ
+other_line head first = head ++ codes " beside " ++ first ++ 10 ∷ []
+
+-- for a text with a header
+abbrev pub text_line : MergeRefusal → ℕ → List ℕ → List ℕ → List ℕ
+text_line OtherCampaign line name first = other_line (merge_head OtherCampaign line name) first
+text_line refusal line name first = merge_line refusal line name
+
+-- for a gap between two files
+abbrev pub gap_line : List ℕ → List ℕ → List ℕ → List ℕ
+gap_line head name other = head ++ codes " between " ++ name ++ codes " and " ++ other ++ 10 ∷ []
+
+-- for what two files both have
+abbrev pub overlap_line : List ℕ → List ℕ → List ℕ → List ℕ
+overlap_line head name other = head ++ codes " of " ++ name ++ codes " and " ++ other ++ 10 ∷ []
 
 -- the line that is printed where texts with headers, in files of these names, are not joined
 abbrev pub join_line : List (List ℕ) → MergeError → List ℕ
-join_line names (errors.Refused OtherCampaign file line) =
-    codes "refused: M4 line " ++ decimal line ++ codes " of " ++ slice_index_or names file [] ++ codes " beside "
-    ++ slice_index_or names 0 [] ++ 10 ∷ []
-join_line names (errors.Refused refusal file line) = merge_line refusal line (slice_index_or names file [])
+join_line names (errors.Refused refusal file line) =
+    text_line refusal line (slice_index_or names file []) (slice_index_or names 0 [])
 join_line names (errors.Gap seam) =
-    codes "refused: M5 " ++ seam_range seam ++ codes " between " ++ slice_index_or names seam.file [] ++ codes " and "
-    ++ slice_index_or names seam.other [] ++ 10 ∷ []
+    gap_line (seam_head (codes "M5") seam) (slice_index_or names seam.file []) (slice_index_or names seam.other [])
 join_line names (errors.Overlap seam) =
-    codes "refused: M6 " ++ seam_range seam ++ codes " of " ++ slice_index_or names seam.file [] ++ codes " and "
-    ++ slice_index_or names seam.other [] ++ 10 ∷ []
+    overlap_line (seam_head (codes "M6") seam) (slice_index_or names seam.file []) (slice_index_or names seam.other [])
 join_line names errors.OutOfMemory = []
 
 -- texts with headers are not joined, and it is printed why

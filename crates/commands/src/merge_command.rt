@@ -4,8 +4,10 @@ ghost use Rattle.std.specs.Prelude.{string_bytes, true};
 ghost use Rattle.std.specs.List.{AllZip};
 ghost use Rattle.inputs.specs.Inputs.{AreBytesOf, CanRead, ReadsNamed};
 ghost use Rattle.commands.specs.Merge.{IsErrorAmong, IsJoinAnswer, IsJoinedAnswer, IsMergeAnswer, IsMerged};
-ghost use Rattle.commands.specs.Merge.{IsMergedAnswer, IsMergeStop, IsTextsStop, gaps_of, is_headed, join_line};
-ghost use Rattle.commands.specs.Merge.{merge_line, merge_refusal_name, missing_line, seam_noun, seam_range};
+ghost use Rattle.commands.specs.Merge.{IsMergedAnswer, IsMergeStop, IsTextsStop, gap_line, gaps_of, is_headed};
+ghost use Rattle.commands.specs.Merge.{join_line, merge_head, other_line, overlap_line, text_line};
+ghost use Rattle.commands.specs.Merge.{merge_line, merge_refusal_name, missing_line, seam_head, seam_noun};
+ghost use Rattle.headers.specs.Headers.{header_line};
 ghost use Rattle.inputs.specs.Refusal.{IsFailure};
 
 use answers::{survey_answer, trials_answer};
@@ -69,6 +71,20 @@ fn merge_refusal_name(refusal: MergeRefusal) -> &'static str
     }
 }
 
+/// What is printed for a line of the input of this name, up to the end of the printed line.
+fn merge_head(
+    alloc: Global,
+    refusal: MergeRefusal,
+    line: usize,
+    name: &str,
+) -> Result<String, AllocError>
+    ensures { IfOk result (λ printed. string_bytes printed ≡ merge_head refusal line name.now) }
+{
+    let number = merge_refusal_name(refusal);
+    let printed = format!(in alloc; "refused: {number} line {line} of {name}")?;
+    Ok(printed)
+}
+
 /// What is printed for a line of the input of this name.
 fn merge_refusal(
     alloc: Global,
@@ -78,8 +94,9 @@ fn merge_refusal(
 ) -> Result<String, AllocError>
     ensures { IfOk result (λ printed. string_bytes printed ≡ merge_line refusal line name.now) }
 {
-    let number = merge_refusal_name(refusal);
-    format!(in alloc; "refused: {number} line {line} of {name}\n")
+    let head = merge_head(alloc, refusal, line, name)?;
+    let printed = format!(in alloc; "{head}\n")?;
+    Ok(printed)
 }
 
 /// The name of a file, of which there are these; the empty one past the last.
@@ -145,15 +162,28 @@ fn put_missing(out: &mut Vec<u8>, gaps: Gaps, missing: u64) -> Result<(), OutOfM
     }
 }
 
+/// Adds the header of what is joined, how many are missing, and the text of the counts.
+fn put_joined(
+    out: &mut Vec<u8>,
+    gaps: Gaps,
+    joined: &Joined,
+    counts: &[u8],
+) -> Result<(), OutOfMemory>
+    ensures { OnOk result (out.new.items ≡ out.old.items ++ (header_line joined.now.header
+        ++ (missing_line gaps joined.now.missing ++ counts.now))) }
+{
+    put_header(out, &joined.header)?;
+    put_missing(out, gaps, joined.missing)?;
+    put_text(out, counts)
+}
+
 /// What is answered to the counts of texts with headers.
 fn joined_answer(alloc: Global, gaps: Gaps, joined: &Joined) -> Result<Answer, OutOfMemory>
     ensures { IfOk result (IsJoinedAnswer gaps joined.now) }
 {
     let counts = merged_answer(alloc, kind_of(&joined.header.counted), &joined.ledger)?;
     let mut text = Vec::new(alloc);
-    put_header(&mut text, &joined.header)?;
-    put_missing(&mut text, gaps, joined.missing)?;
-    put_text(&mut text, &counts.text)?;
+    put_joined(&mut text, gaps, joined, &counts.text)?;
     Ok(Answer {
         outcome: counts.outcome,
         text,
@@ -170,14 +200,59 @@ fn seam_noun(kind: Kind) -> &'static str
     }
 }
 
-/// The seeds or lines of a seam.
-fn seam_range(alloc: Global, seam: Seam) -> Result<String, AllocError>
-    ensures { IfOk result (λ text. string_bytes text ≡ seam_range seam) }
+/// What is printed for a seam, up to the names of files.
+fn seam_head(alloc: Global, number: &str, seam: Seam) -> Result<String, AllocError>
+    ensures { IfOk result (λ text. string_bytes text ≡ seam_head number.now seam) }
 {
     let noun = seam_noun(seam.kind);
     let from = seam.from;
     let to = seam.to;
-    format!(in alloc; "{noun}{from} to {to}")
+    let head = format!(in alloc; "refused: {number} {noun}{from} to {to}")?;
+    Ok(head)
+}
+
+/// What is printed for a line of a text of another campaign than the first.
+fn other_campaign(alloc: Global, head: &str, first: &str) -> Result<String, AllocError>
+    ensures { IfOk result (λ printed. string_bytes printed ≡ other_line head.now first.now) }
+{
+    let printed = format!(in alloc; "{head} beside {first}\n")?;
+    Ok(printed)
+}
+
+/// What is printed for a gap between texts of these files.
+fn gap_line(alloc: Global, head: &str, name: &str, other: &str) -> Result<String, AllocError>
+    ensures { IfOk result (λ printed. string_bytes printed ≡ gap_line head.now name.now other.now) }
+{
+    let printed = format!(in alloc; "{head} between {name} and {other}\n")?;
+    Ok(printed)
+}
+
+/// What is printed for what texts of these files both have.
+fn overlap_line(alloc: Global, head: &str, name: &str, other: &str) -> Result<String, AllocError>
+    ensures { IfOk result (λ printed. string_bytes printed ≡ overlap_line head.now name.now other.now) }
+{
+    let printed = format!(in alloc; "{head} of {name} and {other}\n")?;
+    Ok(printed)
+}
+
+/// What is printed for a line of a text with a header, of files of these names.
+fn text_refusal(
+    alloc: Global,
+    refusal: MergeRefusal,
+    line: usize,
+    name: &str,
+    first: &str,
+) -> Result<String, AllocError>
+    ensures { IfOk result (λ printed. string_bytes printed ≡ text_line refusal line name.now first.now) }
+{
+    match refusal {
+        MergeRefusal::OtherCampaign => {
+            let head = merge_head(alloc, refusal, line, name)?;
+            let printed = other_campaign(alloc, head.as_str(), first)?;
+            Ok(printed)
+        }
+        _ => merge_refusal(alloc, refusal, line, name),
+    }
 }
 
 /// What is printed where texts with headers are not joined, whose files have these names.
@@ -189,28 +264,32 @@ fn join_refusal(alloc: Global, error: MergeError, names: &[String]) -> Result<St
             refusal,
             file,
             line,
-        } => {
-            let number = merge_refusal_name(refusal);
-            let name = name_at(names, file);
-            if refusal == MergeRefusal::OtherCampaign {
-                let first = name_at(names, 0);
-                return format!(in alloc;
-                    "refused: {number} line {line} of {name} beside {first}\n"
-                );
-            }
-            format!(in alloc; "refused: {number} line {line} of {name}\n")
-        }
+        } => text_refusal(
+            alloc,
+            refusal,
+            line,
+            name_at(names, file),
+            name_at(names, 0),
+        ),
         MergeError::Gap(seam) => {
-            let range = seam_range(alloc, seam)?;
-            let name = name_at(names, seam.file);
-            let other = name_at(names, seam.other);
-            format!(in alloc; "refused: M5 {range} between {name} and {other}\n")
+            let head = seam_head(alloc, "M5", seam)?;
+            let printed = gap_line(
+                alloc,
+                head.as_str(),
+                name_at(names, seam.file),
+                name_at(names, seam.other),
+            )?;
+            Ok(printed)
         }
         MergeError::Overlap(seam) => {
-            let range = seam_range(alloc, seam)?;
-            let name = name_at(names, seam.file);
-            let other = name_at(names, seam.other);
-            format!(in alloc; "refused: M6 {range} of {name} and {other}\n")
+            let head = seam_head(alloc, "M6", seam)?;
+            let printed = overlap_line(
+                alloc,
+                head.as_str(),
+                name_at(names, seam.file),
+                name_at(names, seam.other),
+            )?;
+            Ok(printed)
         }
         MergeError::OutOfMemory => Ok(String::new(alloc)),
     }

@@ -43,5 +43,7 @@ merge_answer texts m answer is answered = record {
       (subst (λ (k : Kind). HasTextOf k (concat others) m.ledger) o.0 o.1) answered);
 }
 
-pub returns-in-Ok-clause-ok : goal.returns-in-Ok-clause-ok
-returns-in-Ok-clause-ok c = ?
+pub returns-in_ok-merged_answer-in-Ok-clause-ok : goal.returns-in_ok-merged_answer-in-Ok-clause-ok
+returns-in_ok-merged_answer-in-Ok-clause-ok c =
+    merge_answer (map (λ v. v.items) c.args.texts.now) c.in-Ok.merged c.in_ok-merged_answer-in-Ok.field-0
+    c.in-Ok.ensures.ok c.in_ok-merged_answer-in-Ok.ensures
