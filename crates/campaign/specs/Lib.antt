@@ -1,1 +1,2 @@
 pub mod Campaigns
+pub mod Shards

@@ -2,5 +2,7 @@
 #![tactic(auto)]
 
 mod plan;
+mod shard;
 
 pub use plan::Campaign;
+pub use shard::{Part, Shard, shards_have_all_trials};

@@ -9,3 +9,4 @@ pub mod Batches
 pub mod FoundLemmas
 pub mod LineLemmas
 pub mod Long
+pub mod Masks

@@ -7,3 +7,4 @@ pub mod Tallies
 pub mod Shown
 pub mod OneSurvey
 pub mod Coded
+pub mod Ranges

@@ -14,6 +14,7 @@ mod law;
 mod lines;
 mod offered;
 mod queue;
+mod range;
 mod showing;
 mod surveying;
 mod workers;

@@ -6,3 +6,4 @@ pub mod Filing
 pub mod LegalDesk
 pub mod Looking
 pub mod OneLedger
+pub mod Parts

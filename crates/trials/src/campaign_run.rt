@@ -7,6 +7,7 @@ ghost use Rattle.trials.specs.Codes.{AreCodes, IsCode};
 ghost use Rattle.trials.specs.Looking.{IsDeskSeatOf, SitsAt};
 ghost use Rattle.trials.specs.OneLedger.{EveryTrialHasOneCode, EveryCampaignHasOneLedger};
 ghost use Rattle.trials.specs.OneLedger.{EveryCampaignAddsUp, EveryTrialHasItsKind};
+ghost use Rattle.trials.specs.Parts.{AllShardsAreTheCampaign, EveryTwoPartsAreOne};
 ghost use Rattle.trials.specs.declared.desk_table.SeatKnowledge.{SeatKnowledge};
 
 use crate::law::a_campaign_has_one_ledger;
@@ -100,7 +101,8 @@ fn ledger_of(
 /// A trial of a campaign has one code, however often and wherever it is run, so any two ledgers of a
 /// campaign's codes say the same. What has no verdict are its unfinished trials, and a violation is what is
 /// neither one of these nor ordered. Its counts of ordered and unfinished trials, of overlooks and of cycles
-/// of each length add up to the trials of the campaign.
+/// of each length add up to the trials of the campaign. The codes of two parts of a campaign of which one follows
+/// the other are those of both as one, and the codes of all its shards, one after the other, are its codes.
 pub fn run_campaign<R: Threads + Wait + Sync, G: Gate>(
     rt: &R,
     alloc: Global,
@@ -114,6 +116,8 @@ pub fn run_campaign<R: Threads + Wait + Sync, G: Gate>(
     ensures kinds { EveryTrialHasItsKind }
     ensures ledgers { EveryCampaignHasOneLedger }
     ensures sum { EveryCampaignAddsUp }
+    ensures parts { EveryTwoPartsAreOne }
+    ensures shards { AllShardsAreTheCampaign }
 {
     a_campaign_has_one_ledger();
     let Ok((desk, seat)) = Desk::open(alloc, campaign) else {
