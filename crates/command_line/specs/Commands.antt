@@ -24,8 +24,8 @@ commands = (
     ∷ (
       codes "trials",
       (codes "cores", Size) ∷ (codes "ops", Size) ∷ (codes "addresses", Size)
-          ∷ (codes "seed", Number) ∷ (codes "trials", Number) ∷ (codes "attempts", Number)
-          ∷ (codes "buffer", Number) ∷ (codes "fault", Word) ∷ (codes "workers", Number)
+          ∷ (codes "seed", Number) ∷ (codes "trials", Number) ∷ (codes "shard", Word)
+          ∷ (codes "attempts", Number) ∷ (codes "buffer", Number) ∷ (codes "fault", Word) ∷ (codes "workers", Number)
           ∷ (codes "show", Number) ∷ (codes "reduce", Nothing) ∷ (codes "header", Nothing)
           ∷ (codes "quiet", Nothing) ∷ (codes "words", Nothing) ∷ [],
     )
@@ -49,9 +49,10 @@ commands = (
     ∷ (codes "verify", (codes "RECORDING", Place) ∷ (codes "VERDICT", Place) ∷ (codes "workers", Number) ∷ (codes "words", Nothing) ∷ [])
     ∷ (
       codes "survey",
-      (codes "FILE", Place) ∷ (codes "workers", Number) ∷ (codes "each", Nothing) ∷ (codes "show", Number)
+      (codes "FILE", Place) ∷ (codes "from", Number) ∷ (codes "lines", Number) ∷ (codes "workers", Number)
+          ∷ (codes "each", Nothing) ∷ (codes "show", Number)
           ∷ (codes "reduce", Nothing) ∷ (codes "complete", Nothing) ∷ (codes "states", Number)
-          ∷ (codes "quiet", Nothing) ∷ (codes "words", Nothing) ∷ [],
+          ∷ (codes "header", Nothing) ∷ (codes "quiet", Nothing) ∷ (codes "words", Nothing) ∷ [],
     )
     ∷ (codes "merge", (codes "FILE", Places) ∷ (codes "partial", Nothing) ∷ (codes "words", Nothing) ∷ [])
     ∷ (

@@ -15,6 +15,7 @@ use Rattle.command_line.specs.declared.options.Limits.{Limits}
 use Rattle.command_line.specs.declared.options.Misfit.{Misfit}
 use Rattle.command_line.specs.declared.options.Misfit.TheVariants.{EachWithShow, CompleteWithShow, HeaderWithShow, ReduceWithoutShow}
 use Rattle.command_line.specs.declared.options.Misfit.TheVariants.{StatesWithoutComplete}
+use Rattle.command_line.specs.declared.options.Misfit.TheVariants.{HeaderWithComplete, HeaderWithEach, HeaderWithoutLines}
 use Rattle.command_line.specs.declared.options.Misfit.TheVariants.{RunsWithSteps, TwoQuestions, UnseenWithoutObserved, WhyWithoutObserved}
 use Rattle.command_line.specs.declared.options.Misfit.TheVariants.{ProgramWithLong, WorkersWithLong}
 use Rattle.command_line.specs.declared.options.Misfit.TheVariants.{CycleWithAll, ForbiddenWithoutAll, NoCycle}
@@ -98,12 +99,21 @@ question_misfit rows = if nat_lt 1 (questions rows) then Some TwoQuestions
 abbrev pub surveys_recordings : List Row → Bool
 surveys_recordings rows = option_map_or (λ text. bytes_eq text (codes "false")) (first_of (codes "complete") rows) false
 
--- the options of survey that don't go together: --complete with --show, or --states without --complete
+-- what doesn't go together with --header of survey: --each or --complete, or that --lines is missing
+abbrev pub header_misfit : List Row → Option Misfit
+header_misfit rows =
+    if is_given (codes "header") rows && is_given (codes "each") rows then Some HeaderWithEach
+    else (if is_given (codes "header") rows && is_given (codes "complete") rows then Some HeaderWithComplete
+    else (if is_given (codes "header") rows && surveys_recordings rows && not (is_some (one_of (codes "lines") rows))
+    then Some HeaderWithoutLines else None))
+
+-- the options of survey that don't go together: --complete with --show, --states without --complete, or those with
+-- --header
 abbrev pub survey_misfit : List Row → Option Misfit
 survey_misfit rows =
     if is_some (show_of rows) && is_given (codes "complete") rows then Some CompleteWithShow
     else (if is_some (one_of (codes "states") rows) && surveys_recordings rows then Some StatesWithoutComplete
-    else None)
+    else header_misfit rows)
 
 -- the options of runs that don't go together: --runs with --steps
 abbrev pub runs_misfit : List Row → Option Misfit

@@ -1,5 +1,5 @@
 -- The options that the words ask for.
-use Rattle.std.specs.Prelude.{◌≡◌, ◌≢◌, ◌≤◌, ◌<◌, ℕ, Bool, List, Option, Some, None, IfSome, Ok, false, ⊤, codes, true}
+use Rattle.std.specs.Prelude.{◌≡◌, ◌≢◌, ◌≤◌, ◌<◌, ◌+◌, ◌%◌, ◌^◌, ℕ, Bool, List, Option, Some, None, IfSome, Ok, false, ⊤, codes, true}
 use Rattle.std.specs.Prelude.{IsSomeAnd, if◌then◌else◌, is_some, length, map, option_map, string_bytes, []}
 use Rattle.recording.specs.declared.size.RecordingSize.{RecordingSize}
 use Rattle.recording.specs.declared.size.RecordingSize.TheVariants.{Long, Short}
@@ -31,7 +31,7 @@ use Rattle.command_line.specs.declared.options.OptionStop.{OptionStop}
 use Rattle.command_line.specs.declared.options.OptionStop.TheVariants.{Clap, RefusalMeaning, RefusalMeanings}
 use Rattle.command_line.specs.declared.options.OptionStop.TheVariants.{StandardInputTwice, Misfit, Refused}
 use Rattle.command_line.specs.declared.options.OptionStop.TheVariants.{OutOfMemory}
-use Rattle.command_line.specs.declared.options.TheConstants.{ATTEMPTS, BUFFER, DEFAULT_SEED, LIMIT, TRIALS}
+use Rattle.command_line.specs.declared.options.TheConstants.{ATTEMPTS, BUFFER, DEFAULT_SEED, FROM, LIMIT, LINES, TRIALS}
 use Rattle.command_line.specs.declared.options.TheConstants.{CYCLES, RUNS, STATES, WORKERS}
 use Rattle.command_line.specs.declared.values.Values.{Values}
 use Rattle.command_line.specs.Commands.{HaveNoMistake, command_of, program_app}
@@ -41,6 +41,8 @@ use Rattle.command_line.specs.Meanings.{asks_of_refusals, meaning_asked}
 use Rattle.clap.specs.Words.{all_of, one_of, subcommand_rows_of}
 use Rattle.clap.specs.declared.parser.matches.ArgMatches.{ArgMatches}
 use Rattle.command_line.specs.Refusals.{refusal_of, shape_asked}
+use Rattle.command_line.specs.Shards.{part_asked}
+use Rattle.campaign.specs.declared.shard.Part.{Part}
 
 -- n is the number that is asked for, from 1 to the limit
 pub record IsInRange (limit asked n : ℕ) : Type 0 where
@@ -61,6 +63,10 @@ abbrev pub MayBeNumber : Text → Limits → Option ℕ → List Row → Type 0
 MayBeNumber id limits asked rows =
     (asked ≡ option_map number_written (one_of id rows)) × IfSome asked (IsNumber id limits rows)
 
+-- how many lines are asked for, if this is asked for
+abbrev pub AreLines : Option ℕ → List Row → Type 0
+AreLines lines rows = MayBeNumber (codes "lines") LINES lines rows
+
 -- how many runs are asked for, if this is asked for
 abbrev pub AreRuns : Option ℕ → List Row → Type 0
 AreRuns runs rows = MayBeNumber (codes "runs") RUNS runs rows
@@ -69,14 +75,15 @@ AreRuns runs rows = MayBeNumber (codes "runs") RUNS runs rows
 pub record AreValuesAsked (v : Values) (rows : List Row) : Type 0 where
   pub shape : shape_asked rows ≡ option_map Ok v.shape
   pub seed : v.seed ≡ seed_of rows
-  pub trials : IsNumber (codes "trials") TRIALS rows v.trials
+  pub part : part_asked rows ≡ Some v.part
+  pub trials : IsInRange TRIALS.most v.part.trials v.part.trials
   pub attempts : IsNumber (codes "attempts") ATTEMPTS rows v.attempts
   pub limit : IsNumber (codes "limit") LIMIT rows v.limit
   pub buffer : IsNumber (codes "buffer") BUFFER rows v.buffer
   pub workers : IsNumber (codes "workers") WORKERS rows v.workers
   pub fault : machine_fault_of rows ≡ Some v.fault
   pub show : v.show ≡ show_of rows
-  pub shown : is_some v.shape ≡ true → IfSome v.show (λ k. k < v.trials)
+  pub shown : is_some v.shape ≡ true → IfSome v.show (λ k. k < v.part.trials)
   pub reduce : v.reduce ≡ is_given (codes "reduce") rows
   pub header : v.header ≡ is_given (codes "header") rows
   pub partial : v.partial ≡ is_given (codes "partial") rows
@@ -91,6 +98,8 @@ pub record AreValuesAsked (v : Values) (rows : List Row) : Type 0 where
   pub runs : AreRuns v.runs rows
   pub cycles : MayBeNumber (codes "cycles") CYCLES v.cycles rows
   pub forbidden : v.forbidden ≡ is_given (codes "forbidden") rows
+  pub from : IsNumber (codes "from") FROM rows v.from
+  pub lines : AreLines v.lines rows
 
 -- each option of run is its entry, or else its default
 pub record AreRunOptions (o : RunOptions) (rows : List Row) : Type 0 where
@@ -108,11 +117,20 @@ pub record AreJudgeOptions (o : JudgeOptions) (rows : List Row) : Type 0 where
   pub file : first_of (codes "FILE") rows ≡ Some (string_bytes o.file)
   pub workers : IsNumber (codes "workers") WORKERS rows o.workers
 
+-- the trials are those of a part of a campaign whose first seed is this; seeds are numbers of 64 bits
+pub record AreTrialsOf (part : Part) (seed base trials : ℕ) : Type 0 where
+  pub first : base ≡ (seed + part.first) % 2 ^ 64
+  pub number : trials ≡ part.trials
+
+-- the trials are those that are asked for: all, or those of a shard
+abbrev pub AreTrialsAsked : ℕ → ℕ → List Row → Type 0
+AreTrialsAsked base trials rows = IsSomeAnd (part_asked rows) (λ part. AreTrialsOf part (seed_of rows) base trials)
+
 -- each option of trials is its entry, or else its default; the sizes make the shape
 pub record AreTrialsOptions (o : TrialsOptions) (rows : List Row) : Type 0 where
   pub shape : shape_asked rows ≡ Some (Ok o.campaign.shape)
-  pub seed : o.campaign.base ≡ seed_of rows
-  pub trials : IsNumber (codes "trials") TRIALS rows o.campaign.trials
+  pub trials : AreTrialsAsked o.campaign.base o.campaign.trials rows
+  pub within : IsInRange TRIALS.most o.campaign.trials o.campaign.trials
   pub attempts : IsNumber (codes "attempts") ATTEMPTS rows o.campaign.attempts
   pub buffer : IsNumber (codes "buffer") BUFFER rows o.campaign.capacity
   pub fault : machine_fault_of rows ≡ Some o.campaign.fault
@@ -171,6 +189,9 @@ pub record AreSurveyOptions (o : SurveyOptions) (rows : List Row) : Type 0 where
   pub workers : IsNumber (codes "workers") WORKERS rows o.workers
   pub quiet : o.quiet ≡ is_given (codes "quiet") rows
   pub complete : IsCompletionAsked o.complete rows
+  pub from : IsNumber (codes "from") FROM rows o.from
+  pub lines : AreLines o.lines rows
+  pub header : o.header ≡ is_given (codes "header") rows
 
 -- the names are those of the entry, one at least, and some may be missing where the words have --partial
 pub record AreMergeOptions (o : MergeOptions) (rows : List Row) : Type 0 where

@@ -7,6 +7,7 @@ mod meanings;
 mod named;
 mod options;
 mod pages;
+mod shards;
 mod table;
 mod values;
 pub mod words;

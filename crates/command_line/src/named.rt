@@ -1,5 +1,5 @@
 //! The options of the command with a name.
-ghost use Rattle.std.specs.Prelude.{◌≡◌, ◌≢◌, ◌++◌, [], IfOk, List, None, OnOk, Some, codes, map, option_map, string_bytes};
+ghost use Rattle.std.specs.Prelude.{◌≡◌, ◌≢◌, ◌+◌, ◌%◌, ◌^◌, ◌++◌, [], IfOk, List, None, OnOk, Some, codes, map, option_map, string_bytes};
 ghost use Rattle.clap.specs.Words.{Row, first_of, found_of, rows_of};
 ghost use Rattle.command_line.specs.Entries.{HasEntries, HasText, joined_from, names_given, with_space};
 ghost use Rattle.command_line.specs.Options.{AreExplainOptions, AreMakeOptions, AreMergeOptions, AreOptionsOf, AreRunOptions};
@@ -82,8 +82,8 @@ fn campaign_of(values: &Values) -> Campaign
     ensures shape { values.now.shape ≡ Some result.shape }
     ensures rest { result ≡ record {
       shape = result.shape;
-      base = values.now.seed;
-      trials = values.now.trials;
+      base = (values.now.seed + values.now.part.first) % 2 ^ 64;
+      trials = values.now.part.trials;
       attempts = values.now.attempts;
       capacity = values.now.buffer;
       fault = values.now.fault;
@@ -95,8 +95,8 @@ fn campaign_of(values: &Values) -> Campaign
     shape.sound();
     Campaign::of_plan(
         shape,
-        values.seed,
-        values.trials,
+        values.seed.wrapping_add(values.part.first),
+        values.part.trials as usize,
         values.attempts,
         values.buffer,
         values.fault,
@@ -153,6 +153,9 @@ fn survey_options(
         workers: values.workers,
         quiet: values.quiet,
         complete: completion_asked(values),
+        from: values.from,
+        lines: values.lines,
+        header: values.header,
     })
 }
 

@@ -70,6 +70,20 @@ pub const RUNS: Limits = Limits {
     refusal: OptionRefusal::Runs,
 };
 
+/// The number of the first line that is surveyed.
+pub const FROM: Limits = Limits {
+    most: usize::MAX,
+    default: 1,
+    refusal: OptionRefusal::Lines,
+};
+
+/// How many lines are surveyed at most.
+pub const LINES: Limits = Limits {
+    most: usize::MAX,
+    default: 1,
+    refusal: OptionRefusal::Lines,
+};
+
 /// The most events of the cycles that are listed.
 pub const CYCLES: Limits = Limits {
     most: 16,
@@ -150,7 +164,7 @@ pub struct JudgeOptions {
 /// What `trials` is asked: the campaign, the workers, the trial that is shown, and how it and progress are.
 #[derive(Debug, Drop)]
 pub struct TrialsOptions {
-    /// The campaign.
+    /// The campaign; of a shard the trials of the shard alone, of which the first has the number 0.
     pub campaign: Campaign,
     /// How many workers share the trials at most, 1 to `MAX_WORKERS`.
     pub workers: usize,
@@ -223,6 +237,12 @@ pub struct SurveyOptions {
     pub quiet: bool,
     /// Where the lines are values that are completed, how many states are looked at at most for each, 1 to 2^32 - 1.
     pub complete: Option<usize>,
+    /// The number of the first line that is surveyed, from 1.
+    pub from: usize,
+    /// How many lines are surveyed at most, 1 or more; none sets no limit.
+    pub lines: Option<usize>,
+    /// Whether the counts have a header.
+    pub header: bool,
 }
 
 /// What `merge` is asked: the names of the texts, and whether some trials or lines may be missing.
@@ -323,6 +343,10 @@ pub enum OptionRefusal {
     Runs,
     /// K14: the number of events is not from 1 to 16.
     Cycles,
+    /// K15: the text of a shard is not `I/N` with I from 1 to N, N at most 2^32 - 1. It comes before K5.
+    Shard,
+    /// K16: the number of the first line, or of lines, is 0.
+    Lines,
 }
 
 /// Options that don't go together.
@@ -332,6 +356,12 @@ pub enum Misfit {
     EachWithShow,
     /// `--header` says what is counted, and `--show` shows a trial instead.
     HeaderWithShow,
+    /// `--header` says what is counted, and `--each` prints lines before the counts.
+    HeaderWithEach,
+    /// `--header` is for counts that are merged, and those of values are not.
+    HeaderWithComplete,
+    /// `--header` of a survey says how many lines are surveyed at most.
+    HeaderWithoutLines,
     /// `--complete` counts what values come to, and `--show` shows a verdict instead.
     CompleteWithShow,
     /// `--reduce` cuts down what `--show` shows.
@@ -366,6 +396,17 @@ impl Display for Misfit {
             }
             Misfit::HeaderWithShow => {
                 f.write_str("error: the argument '--show <K>' cannot be used with '--header'")?;
+            }
+            Misfit::HeaderWithEach => {
+                f.write_str("error: the argument '--header' cannot be used with '--each'")?;
+            }
+            Misfit::HeaderWithComplete => {
+                f.write_str("error: the argument '--header' cannot be used with '--complete'")?;
+            }
+            Misfit::HeaderWithoutLines => {
+                f.write_str(
+                    "error: the following required arguments were not provided:\n  --lines <N>",
+                )?;
             }
             Misfit::CompleteWithShow => {
                 f.write_str("error: the argument '--show <K>' cannot be used with '--complete'")?;

@@ -119,6 +119,10 @@ ascending order, `cycle K: N`, how many have no such load but a shortest cycle o
 and `first violation: trial k`, or `first violation: none`. The counts do not depend on the
 number of workers.
 
+A large program needs more steps than the 100000 that are attempted at most. Each trial ends
+within `--attempts 200000` of 4 cores with 128 operations over 16 addresses, within 500000
+of 8 with 64, and but for one in hundreds within 1000000 of 16 with 32.
+
 Where standard error is a terminal, a campaign that lasts shows there how many trials are
 done and how many violations were found, until its end; with `--quiet` it shows nothing.
 
@@ -128,7 +132,11 @@ as by `run`, and the exit status is that of `run`. With `--reduce` a violation i
 first, as by `reduce`.
 
 With `--header` the first line is the command that prints these counts, with all options
-that matter to them. By it `merge` knows which trials they are of.",
+that matter to them. By it `merge` knows which trials they are of.
+
+With `--shard I/N` the I-th of N parts of the trials is run alone, as by `--seed` and
+`--trials` of its own, which `--header` prints. All N parts have all trials, each one once;
+so `--trials` may be any number below 2^64 then, if no part has more than 65536.",
     statuses: "Exit status:
   0  no trial is a violation, and none is unfinished
   1  an error of the command line or memory, as standard error says
@@ -137,8 +145,9 @@ that matter to them. By it `merge` knows which trials they are of.",
   4  no trial is a violation, and at least one is unfinished
 
 Examples:
-  tsotest trials --cores 2 --ops 8 --addresses 2 --fault stale-share
-  tsotest trials --cores 2 --ops 8 --addresses 2 --fault stale-share --show 0",
+  tsotest trials --cores 4 --ops 16 --addresses 4 --trials 1000 --workers 4
+  tsotest trials --cores 2 --ops 64 --addresses 2 --trials 512 --fault stale-share
+  tsotest trials --cores 2 --ops 64 --addresses 2 --trials 512 --fault stale-share --show 146",
 };
 
 const LIVE: Page = Page {
@@ -297,6 +306,11 @@ judged; then comes an empty line. With `--show K` only recording K is answered, 
 longest line, however long the input is. The answer does not depend on the number of
 workers.
 
+With `--from F` and `--lines N` only lines F to F + N - 1 are surveyed, as if the input had
+no others. Lines are numbered from 1, the empty ones among them. So one file is dealt out to
+several commands; with `--header` each one's first line says which lines it counts, and
+`merge` adds them up.
+
 With `--complete` each line has values alone, as `complete` reads them. It prints
 `recordings N`, how many there are; `ordered N`, how many TSO allows; `impossible N`, how
 many it does not; `unfinished N`, for how many there are more states than `--states` allows;
@@ -317,7 +331,8 @@ done and how many violations were found, until its end; with `--quiet` it shows 
 Examples:
   cat nightly/*.json | tsotest survey - --workers 4
   tsotest survey chip.jsonl --complete --workers 4
-  tsotest survey nightly.jsonl --show 2 --reduce",
+  tsotest survey nightly.jsonl --show 2 --reduce
+  tsotest survey nightly.jsonl --from 4097 --lines 4096 --header",
 };
 
 const MERGE: Page = Page {
@@ -330,10 +345,11 @@ which they are named: counts are added, and `first violation: trial k` counts k 
 of them. So campaigns of n trials each with the seeds s, s + n, s + 2n, .. merge to the text
 of all trials from s on, whoever ran them, and where.
 
-Where texts begin with a header, as by `trials --header`, all do, of one campaign, in any
-order: each seed is in one of them, from the first to the last. The text of them all has a
-header, too. With `--partial` seeds may be missing: `missing N`, after the header, says how
-many, and the first violation is counted from the first seed, those that are missing, too.
+Where texts begin with a header, as by `trials --header` or `survey --header`, all do, of
+one campaign, or of one survey, in any order: each seed or line is in one of them, from the
+first to the last. The text of them all has a header, too. With `--partial` some may be
+missing: `missing N`, after the header, says how many, and the first violation of trials is
+counted from the first seed, those that are missing, too.
 
 A text that no list of outcomes has is refused, with its file and its line: counts that
 don't add up, lengths of cycles out of order or past 512 or with a count of 0, or a first

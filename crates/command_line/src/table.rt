@@ -143,6 +143,13 @@ const TRIALS: ArgumentRow = ArgumentRow {
     help: "Programs that are made and run, from 1 to 65536 [default: 64]",
 };
 
+const SHARD: ArgumentRow = ArgumentRow {
+    name: "shard",
+    takes: Takes::Text,
+    value: "I/N",
+    help: "Runs the I-th of N parts of the trials alone, from 1; with it --trials is below 2^64",
+};
+
 const ATTEMPTS: ArgumentRow = ArgumentRow {
     name: "attempts",
     takes: Takes::Number,
@@ -199,6 +206,20 @@ const EACH: ArgumentRow = ArgumentRow {
     help: "Prints a line for each recording, as soon as those before it are judged, before the counts",
 };
 
+const FROM: ArgumentRow = ArgumentRow {
+    name: "from",
+    takes: Takes::Number,
+    value: "N",
+    help: "The first line that is surveyed [default: 1]",
+};
+
+const LINES: ArgumentRow = ArgumentRow {
+    name: "lines",
+    takes: Takes::Number,
+    value: "N",
+    help: "The most lines that are surveyed, the empty ones among them [default: all]",
+};
+
 const REDUCE: ArgumentRow = ArgumentRow {
     name: "reduce",
     takes: Takes::Nothing,
@@ -232,6 +253,13 @@ const HEADER: ArgumentRow = ArgumentRow {
     takes: Takes::Nothing,
     value: "",
     help: "Prints the command that prints these counts before them, so that `merge` knows them; not with --show",
+};
+
+const HEADER_OF_LINES: ArgumentRow = ArgumentRow {
+    name: "header",
+    takes: Takes::Nothing,
+    value: "",
+    help: "Prints the command that prints these counts before them, so that `merge` knows them; only with --lines",
 };
 
 const PARTIAL: ArgumentRow = ArgumentRow {
@@ -359,8 +387,8 @@ pub const COMMANDS: &[CommandRow] = &[
     CommandRow {
         name: "trials",
         arguments: &[
-            CORES, OPS, ADDRESSES, SEED, TRIALS, ATTEMPTS, BUFFER, FAULT, WORKERS, SHOW, REDUCE,
-            HEADER, QUIET, WORDS,
+            CORES, OPS, ADDRESSES, SEED, TRIALS, SHARD, ATTEMPTS, BUFFER, FAULT, WORKERS, SHOW,
+            REDUCE, HEADER, QUIET, WORDS,
         ],
     },
     CommandRow {
@@ -391,12 +419,15 @@ pub const COMMANDS: &[CommandRow] = &[
         name: "survey",
         arguments: &[
             RECORDINGS,
+            FROM,
+            LINES,
             WORKERS,
             EACH,
             SHOW_RECORDING,
             REDUCE,
             COMPLETE,
             STATES,
+            HEADER_OF_LINES,
             QUIET,
             WORDS,
         ],

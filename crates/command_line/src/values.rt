@@ -1,4 +1,4 @@
-//! The numbers, the fault and the flags that entries ask for, and the first refusal, K1 to K14.
+//! The numbers, the fault and the flags that entries ask for, and the first refusal of K1 to K10 and K12 to K16.
 ghost use Rattle.std.specs.Prelude.{◌≡◌, ◌<◌, IfOk, IfSome, Ok, Some, codes, option_map, true};
 ghost use Rattle.std.specs.Result.{result_err};
 ghost use Rattle.clap.specs.Words.{found_of, rows_of};
@@ -9,9 +9,11 @@ ghost use Rattle.command_line.specs.Refusals.{shape_asked, sizes_refusal};
 
 use crate::entries::{flag, maybe_text, number, number_or};
 use crate::options::{
-    ATTEMPTS, BUFFER, CYCLES, DEFAULT_FAULT, DEFAULT_SEED, LIMIT, Limits, OptionRefusal, RUNS,
-    STATES, TRIALS, WORKERS,
+    ATTEMPTS, BUFFER, CYCLES, DEFAULT_FAULT, DEFAULT_SEED, FROM, LIMIT, LINES, Limits,
+    OptionRefusal, RUNS, STATES, WORKERS,
 };
+use crate::shards::part;
+use campaign::Part;
 use clap::ArgMatches;
 use headers::fault_named;
 use machine::Fault;
@@ -22,7 +24,7 @@ use program::{Shape, is_outside};
 pub struct Values {
     pub shape: Option<Shape>,
     pub seed: u64,
-    pub trials: usize,
+    pub part: Part,
     pub attempts: usize,
     pub limit: usize,
     pub buffer: usize,
@@ -43,6 +45,8 @@ pub struct Values {
     pub runs: Option<usize>,
     pub cycles: Option<usize>,
     pub forbidden: bool,
+    pub from: usize,
+    pub lines: Option<usize>,
 }
 
 /// The number of an option, where it is within its limits.
@@ -90,7 +94,7 @@ fn fault(matches: &ArgMatches<'_>) -> Result<Fault, OptionRefusal>
 fn show(
     matches: &ArgMatches<'_>,
     is_campaign: bool,
-    trials: usize,
+    trials: u64,
 ) -> Result<Option<usize>, OptionRefusal>
     requires { HasNumber (codes "show") (rows_of (found_of matches.now)) }
     ensures ok { IfOk result (λ show. (show ≡ show_of (rows_of (found_of matches.now)))
@@ -100,7 +104,7 @@ fn show(
 {
     match number(matches, "show") {
         Some(k) => {
-            if is_campaign && trials <= k as usize {
+            if is_campaign && trials <= k {
                 return Err(OptionRefusal::Show);
             }
             Ok(Some(k as usize))
@@ -126,27 +130,29 @@ fn maybe_limited(
     }
 }
 
-/// What the entries ask for, or the first refusal, K1 to K14.
+/// What the entries ask for, or the first refusal: K1 to K4, K15, K5 to K10, K12 to K14, K16.
 pub fn read_values(matches: &ArgMatches<'_>) -> Result<Values, OptionRefusal>
     requires { AreEntries (rows_of (found_of matches.now)) }
     ensures ok { IfOk result (λ n. AreValuesAsked n (rows_of (found_of matches.now))) }
     ensures err { result_err result ≡ refusal_of (rows_of (found_of matches.now)) }
 {
     let shape = shape(matches)?;
-    let trials = limited(matches, "trials", TRIALS)?;
+    let part = part(matches)?;
     let attempts = limited(matches, "attempts", ATTEMPTS)?;
     let limit = limited(matches, "limit", LIMIT)?;
     let buffer = limited(matches, "buffer", BUFFER)?;
     let workers = limited(matches, "workers", WORKERS)?;
     let fault = fault(matches)?;
-    let show = show(matches, shape.is_some(), trials)?;
+    let show = show(matches, shape.is_some(), part.trials)?;
     let states = limited(matches, "states", STATES)?;
     let runs = maybe_limited(matches, "runs", RUNS)?;
     let cycles = maybe_limited(matches, "cycles", CYCLES)?;
+    let from = limited(matches, "from", FROM)?;
+    let lines = maybe_limited(matches, "lines", LINES)?;
     Ok(Values {
         shape,
         seed: number_or(matches, "seed", DEFAULT_SEED),
-        trials,
+        part,
         attempts,
         limit,
         buffer,
@@ -167,5 +173,7 @@ pub fn read_values(matches: &ArgMatches<'_>) -> Result<Values, OptionRefusal>
         runs,
         cycles,
         forbidden: flag(matches, "forbidden"),
+        from,
+        lines,
     })
 }

@@ -2,7 +2,7 @@
 use Rattle.std.proofs.Common.{◌≡◌, ◌≤◌, ◌^◌, ◌++◌, ◌∙◌, ℕ, List, Option, Some, None, Result, Ok, Err, IfOk, ap, arith}
 use Rattle.std.proofs.Common.{length, length-append}
 use Rattle.std.proofs.Common.{subst, sym}
-use Rattle.std.specs.Prelude.{IfSome}
+use Rattle.std.specs.Prelude.{IfSome, option_map}
 use Rattle.std.specs.Io.KnownBytes.{Appends, Consumes, IsAtEnd, Keeps}
 use Rattle.std.proofs.KnownBytes.{Appends-kept}
 use Rattle.std.proofs.lemmas.List.{append-nil, take_all}
@@ -35,6 +35,31 @@ long_given (Some xs) (Some ys) (Some zs) keeps long = omega (
   ap (λ (l : List ℕ). length l) keeps,
   ap (λ (l : List ℕ). length l) long.1,
   length-append long.0 zs,
+)
+
+-- known bytes of which others are made stay
+mapped_kept : (f : List ℕ → List ℕ) (known left : Option (List ℕ)) → Keeps known left
+    → Keeps (option_map f known) (option_map f left)
+mapped_kept f None left keeps = tt
+mapped_kept f (Some xs) None keeps = absurd keeps
+mapped_kept f (Some xs) (Some ys) keeps = ap f keeps
+
+-- all bytes that are made of those that are known were read
+pub all_mapped : (f : List ℕ → List ℕ) (known left after : Option (List ℕ)) (bytes : List ℕ) → Keeps known left
+    → Consumes (option_map f left) after bytes → IsAtEnd after → IfSome known (λ all. bytes ≡ f all)
+all_mapped f None left after bytes keeps read end = tt
+all_mapped f (Some xs) left after bytes keeps read end =
+    all_given (Some (f xs)) (option_map f left) after bytes (mapped_kept f (Some xs) left keeps) read end
+
+-- of an input of which as many bytes are made, and are too many, 2^64 bytes or more are known, where any are
+pub long_mapped : (f : List ℕ → List ℕ) (known left after : Option (List ℕ))
+    → ((bytes : List ℕ) → length (f bytes) ≡ length bytes) → Keeps known left
+    → IsLongRead TooLong (option_map f left) after → IfSome known (λ bytes. 2 ^ 64 ≤ length bytes)
+long_mapped f None left after same keeps long = tt
+long_mapped f (Some xs) left after same keeps long = omega (
+  arith,
+  same xs,
+  long_given (Some (f xs)) (option_map f left) after (mapped_kept f (Some xs) left keeps) long,
 )
 
 -- what is written and handed on, or not, is the answer, or a beginning of it

@@ -1,5 +1,5 @@
 -- What a program's run, or a campaign of them, is answered, and why it stops.
-use Rattle.std.specs.Prelude.{◌≡◌, ◌⊎◌, ◌++◌, ℕ, Bool, true, false, List, Option, Some, None, Ok, length, option_map, string_bytes, ⊤}
+use Rattle.std.specs.Prelude.{◌≡◌, ◌⊎◌, ◌++◌, ℕ, List, Option, Some, None, Ok, if◌then◌else◌, length, option_map, string_bytes, ⊤}
 use Rattle.verdicts.specs.declared.printed.Answer.{Answer}
 use Rattle.answers.specs.Campaign.{IsCampaignAnswer, IsShownAnswer}
 use Rattle.answers.specs.Histogram.{IsLiveHistogramAnswer, IsSeededHistogramAnswer}
@@ -7,8 +7,9 @@ use Rattle.answers.specs.Run.{IsRunAnswer, IsSeededAnswer, script_state}
 use Rattle.command_line.specs.declared.options.LiveOptions.{LiveOptions}
 use Rattle.command_line.specs.declared.options.RunOptions.{RunOptions}
 use Rattle.command_line.specs.declared.options.TrialsOptions.{TrialsOptions}
-use Rattle.campaign.specs.Campaigns.{Plan}
-use Rattle.headers.specs.Headers.{header_line, header_of}
+use Rattle.headers.specs.declared.header.Header.{Header}
+use Rattle.headers.specs.Headers.{header_of}
+use Rattle.commands.specs.Headed.{IsHeaded}
 use Rattle.histograms.specs.declared.live_runs.LiveRuns.{LiveRuns}
 use Rattle.histograms.specs.declared.seeded_runs.SeededRuns.{SeededRuns}
 use Rattle.program.specs.Parts.{Parts}
@@ -89,14 +90,12 @@ IsLiveStop inputs o (Failed NoThread) = OfProgram inputs (string_bytes o.program
 IsLiveStop inputs o (Failed Stranger) = OfProgram inputs (string_bytes o.program) (λ _. ⊤)
 IsLiveStop inputs o (Failed error) = IsInputError inputs (string_bytes o.program) error
 
--- the counts of a campaign, after its header where one is asked for
-abbrev pub IsHeaded : Bool → Plan → Answer → Answer → Type 0
-IsHeaded true p counts answer = (answer.outcome ≡ counts.outcome)
-    × (answer.text.items ≡ header_line (header_of p) ++ counts.text.items)
-IsHeaded false p counts answer = answer ≡ counts
+-- the header of a campaign, where one is asked for
+abbrev pub campaign_header : TrialsOptions → Option Header
+campaign_header o = if o.header then Some (header_of o.campaign) else None
 
 -- the answer of trials: the counts of all of them, or the one that is to be shown
 abbrev pub IsTrials : TrialsOptions → Option ℕ → Answer → Type 0
 IsTrials o None answer = (counts : Answer) × IsCampaignAnswer o.campaign counts
-    × IsHeaded o.header o.campaign counts answer
+    × IsHeaded (campaign_header o) counts answer
 IsTrials o (Some k) answer = IsShownAnswer o.campaign k o.reduce answer

@@ -1,7 +1,9 @@
 -- What survey answers.
 use Rattle.std.specs.Prelude.{◌≡◌, ◌≢◌, ◌≤◌, ◌^◌, ◌++◌, ◌∷◌, [], ℕ, Bool, List, Option, None, Some, true, false}
 use Rattle.std.specs.Prelude.{codes}
-use Rattle.std.specs.Prelude.{IfSome, length, string_bytes, ⊤}
+use Rattle.std.specs.Prelude.{IfSome, if◌then◌else◌, length, option_map, string_bytes, ⊤}
+use Rattle.headers.specs.declared.header.Counted.TheVariants.{Survey}
+use Rattle.headers.specs.declared.header.Header.{Header}
 use Rattle.std.specs.Io.KnownBytes.{Appends}
 use Rattle.command_line.specs.declared.options.SurveyOptions.{SurveyOptions}
 use Rattle.ledger.specs.declared.finding.Finding.{Finding}
@@ -10,8 +12,9 @@ use Rattle.ledger.specs.Surveyed.{IsSurveyLedger}
 use Rattle.surveys.specs.declared.kind.LineKind.{LineKind}
 use Rattle.surveys.specs.declared.kind.LineKind.TheVariants.{Recording, Values}
 use Rattle.surveys.specs.Found.{AreFindings, codes_of}
-use Rattle.surveys.specs.Lines.{lines}
-use Rattle.surveys.specs.Shown.{IsLineAt}
+use Rattle.surveys.specs.declared.range.LineRange.{LineRange}
+use Rattle.surveys.specs.Ranges.{lines_in}
+use Rattle.surveys.specs.Shown.{IsLineAmong}
 use Rattle.surveys.specs.Each.{each_text}
 use Rattle.ledger.specs.Counted.{survey_text, values_survey_text}
 use Rattle.verdicts.specs.declared.printed.Answer.{Answer}
@@ -23,7 +26,8 @@ use Rattle.inputs.specs.declared.command_error.CommandError.{CommandError}
 use Rattle.inputs.specs.declared.command_error.CommandError.TheVariants.{TooLong, WriteFailed}
 use Rattle.inputs.specs.declared.command_stop.CommandStop.{CommandStop}
 use Rattle.inputs.specs.declared.command_stop.CommandStop.TheVariants.{Refused, Failed}
-use Rattle.inputs.specs.Inputs.{AreBytesOf, IsInputError, OfBytes}
+use Rattle.inputs.specs.Inputs.{IsInputError}
+use Rattle.commands.specs.Headed.{IsHeaded}
 
 -- a line of each recording is printed before the input's end
 abbrev pub TellsEach : SurveyOptions → Type 0
@@ -50,12 +54,28 @@ pub record IsCountsAnswer (complete : Option ℕ) (after_lines : Bool) (ledger :
   pub outcome : answer.outcome ≡ counts_outcome complete ledger
   pub text : answer.text.items ≡ empty_line after_lines ++ counts_text complete ledger
 
+-- the lines that are surveyed
+abbrev pub range_of : SurveyOptions → LineRange
+range_of o = record { first = o.from; count = o.lines }
+
+-- these are the lines of the named input that are surveyed, where its bytes are known
+abbrev pub AreLinesOf : (List ℕ → Option (List ℕ)) → SurveyOptions → List (List ℕ) → Type 0
+AreLinesOf inputs o all = IfSome (inputs (string_bytes o.file)) (λ bytes. all ≡ lines_in (range_of o) bytes)
+
+-- the header of counts of so many lines at most from the first on
+abbrev pub header_of_lines : ℕ → ℕ → Header
+header_of_lines first count = record { counted = Survey; first = first; count = count }
+
+-- the header of the counts of lines, where one is asked for; the number of lines is then asked for, too
+abbrev pub survey_header : SurveyOptions → Option Header
+survey_header o = if o.header then option_map (header_of_lines o.from) o.lines else None
+
 -- what is found in the lines of the named input, in order, and what is counted of their codes
 pub record IsSurveyed (inputs : List ℕ → Option (List ℕ)) (o : SurveyOptions) (findings : List Finding)
     (ledger : SurveyLedger) : Type 0 where
-  pub bytes : List ℕ
-  pub given : AreBytesOf inputs (string_bytes o.file) bytes
-  pub found : AreFindings (line_kind o.complete) (lines bytes) findings
+  pub all : List (List ℕ)
+  pub given : AreLinesOf inputs o all
+  pub found : AreFindings (line_kind o.complete) all findings
   pub counted : IsSurveyLedger (codes_of findings) ledger
 
 -- a line of each was written, an empty line, and their counts
@@ -71,14 +91,15 @@ pub record IsEachWritten (inputs : List ℕ → Option (List ℕ)) (o : SurveyOp
 -- the answer of survey, where no recording is reported, by the one that is to be shown
 abbrev pub IsSurveyOf : (List ℕ → Option (List ℕ)) → SurveyOptions → Option ℕ → Answer → Type 0
 IsSurveyOf inputs o None answer = (o.each ≢ true) × (findings : List Finding) × (ledger : SurveyLedger)
-    × IsSurveyed inputs o findings ledger × IsCountsAnswer o.complete false ledger answer
-IsSurveyOf inputs o (Some k) answer = OfBytes inputs (string_bytes o.file)
-    (λ bytes. (line : List ℕ) × IsLineAt bytes k line × IsLineAnswer o.reduce line answer)
+    × IsSurveyed inputs o findings ledger × (counts : Answer) × IsCountsAnswer o.complete false ledger counts
+    × IsHeaded (survey_header o) counts answer
+IsSurveyOf inputs o (Some k) answer = (all : List (List ℕ)) × AreLinesOf inputs o all × (line : List ℕ)
+    × IsLineAmong all k line × IsLineAnswer o.reduce line answer
 
 -- the named input has no recording of the number that is asked for
 abbrev pub IsPastTheEnd : (List ℕ → Option (List ℕ)) → SurveyOptions → Option ℕ → Type 0
 IsPastTheEnd inputs o None = ⊥
-IsPastTheEnd inputs o (Some k) = OfBytes inputs (string_bytes o.file) (λ bytes. length (lines bytes) ≤ k)
+IsPastTheEnd inputs o (Some k) = (all : List (List ℕ)) × AreLinesOf inputs o all × (length all ≤ k)
 
 -- why the named input is not surveyed: it isn't read, or it has 2^64 bytes or more
 abbrev pub IsSurveyError : (List ℕ → Option (List ℕ)) → SurveyOptions → CommandError → Type 0

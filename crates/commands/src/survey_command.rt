@@ -5,19 +5,21 @@ ghost use Rattle.devices.specs.Bytes.{CanGrow, CountsBy};
 ghost use Rattle.surveys.specs.Surveys.{told_text};
 ghost use Rattle.inputs.specs.Inputs.{CanRead, ReadsNamed, ReadsInput, command_failed_writes};
 ghost use Rattle.commands.specs.Survey.{IsCountsAnswer, IsEachError, IsEachWritten, IsSurveyed, IsSurveyOf};
-ghost use Rattle.commands.specs.Survey.{IsSurveyStop, TellsEach, line_kind};
+ghost use Rattle.commands.specs.Survey.{IsSurveyStop, TellsEach, line_kind, range_of, survey_header};
 
+use crate::headed::headed;
 use crate::output::put;
 use answers::{line_answer, survey_answer, values_survey_answer};
 use command_line::SurveyOptions;
 use common::OutOfMemory;
 use devices::{Host, MemorySink, Sink};
+use headers::{Counted, Header};
 use inputs::{CommandError, CommandStop, opened};
 use report::{Answer, Outcome};
 use std::alloc::Global;
 use std::sync::Wait;
 use std::thread::Threads;
-use surveys::{Finding, LineKind, SurveyError, SurveyLedger, line_of, survey};
+use surveys::{Finding, LineKind, LineRange, LinesOf, SurveyError, SurveyLedger, line_of, survey};
 
 /// What the lines are.
 fn line_kind(complete: Option<usize>) -> LineKind
@@ -44,6 +46,34 @@ fn counts_answer(
     }
 }
 
+/// The lines that are surveyed.
+fn range_of(options: &SurveyOptions) -> LineRange
+    ensures { result ≡ range_of options.now }
+{
+    LineRange {
+        first: options.from as u64,
+        count: match options.lines {
+            Some(count) => Some(count as u64),
+            None => None,
+        },
+    }
+}
+
+/// The header of the counts of lines, where one is asked for.
+fn survey_header(options: &SurveyOptions) -> Option<Header>
+    ensures { result ≡ survey_header options.now }
+{
+    let count = match options.lines {
+        Some(count) if options.header => count,
+        _ => return None,
+    };
+    Some(Header {
+        counted: Counted::Survey,
+        first: options.from as u64,
+        count: count as u64,
+    })
+}
+
 /// Counts the recordings of the named input, and writes the line of each where it is reported.
 fn counted<R: Threads + Wait + Sync, H: Host, W: Sink>(
     rt: &R,
@@ -63,21 +93,22 @@ fn counted<R: Threads + Wait + Sync, H: Host, W: Sink>(
     ensures writes { CountsBy command_failed_writes (W.write_failures out.old) (W.write_failures out.new) result }
     ensures silent { each ≢ true → out.new ≡ out.old }
 {
-    let mut input = opened(alloc, host, options.file.as_str())?;
+    let input = opened(alloc, host, options.file.as_str())?;
+    let mut lines = LinesOf::new(input, range_of(options));
     let progress = host.progress(None, options.quiet);
     let kind = line_kind(options.complete);
     let surveyed = survey(
         rt,
         alloc,
         kind,
-        &mut input,
+        &mut lines,
         out,
         each,
         options.workers,
         &progress,
     );
     drop(progress);
-    host.take_back(input);
+    host.take_back(lines.into_source());
     match surveyed {
         Ok(ledger) => Ok(ledger),
         Err(SurveyError::ReadFailed) => Err(CommandError::ReadFailed),
@@ -125,9 +156,10 @@ pub fn survey_command<R: Threads + Wait + Sync, H: Host>(
 {
     match options.show {
         Some(k) => {
-            let mut input = opened(alloc, host, options.file.as_str())?;
-            let line = line_of(alloc, &mut input, k);
-            host.take_back(input);
+            let input = opened(alloc, host, options.file.as_str())?;
+            let mut lines = LinesOf::new(input, range_of(options));
+            let line = line_of(alloc, &mut lines, k);
+            host.take_back(lines.into_source());
             match line {
                 Ok(Some(line)) => Ok(line_answer(alloc, line.as_slice(), options.reduce)?),
                 Ok(None) => Err(CommandStop::of_line(alloc, "refused: K11\n")),
@@ -142,7 +174,8 @@ pub fn survey_command<R: Threads + Wait + Sync, H: Host>(
         None => {
             let mut out = MemorySink::new(alloc);
             let ledger = counted(rt, alloc, options, host, &mut out, false)?;
-            Ok(counts_answer(alloc, options.complete, &ledger, false)?)
+            let counts = counts_answer(alloc, options.complete, &ledger, false)?;
+            Ok(headed(alloc, survey_header(options), counts)?)
         }
     }
 }

@@ -4,34 +4,28 @@ ghost use Rattle.clap.specs.Words.{Row};
 ghost use Rattle.command_line.specs.Options.{AreTrialsOptions};
 ghost use Rattle.inputs.specs.declared.command_error.CommandError.TheVariants as error;
 ghost use Rattle.inputs.specs.declared.command_stop.CommandStop.TheVariants.{Failed};
-ghost use Rattle.commands.specs.Run.{IsHeaded, IsTrials};
+ghost use Rattle.commands.specs.Run.{IsTrials, campaign_header};
 
+use crate::headed::headed;
 use answers::{campaign_answer, shown_answer};
 use command_line::TrialsOptions;
-use common::OutOfMemory;
 use devices::Host;
-use headers::{Header, put_header};
+use headers::Header;
 use inputs::CommandStop;
 use report::Answer;
 use std::alloc::Global;
 use std::sync::Wait;
 use std::thread::Threads;
-use texts::put_text;
 
-/// The counts of a campaign, after a header where one is asked for.
-fn headed(alloc: Global, options: &TrialsOptions, counts: Answer) -> Result<Answer, OutOfMemory>
-    ensures { IfOk result (IsHeaded options.now.header options.now.campaign counts) }
+/// The header of a campaign, where one is asked for.
+fn campaign_header(options: &TrialsOptions) -> Option<Header>
+    ensures { result ≡ campaign_header options.now }
 {
-    if !options.header {
-        return Ok(counts);
+    if options.header {
+        Some(Header::of_campaign(&options.campaign))
+    } else {
+        None
     }
-    let mut text = Vec::new(alloc);
-    put_header(&mut text, &Header::of_campaign(&options.campaign))?;
-    put_text(&mut text, &counts.text)?;
-    Ok(Answer {
-        outcome: counts.outcome,
-        text,
-    })
 }
 
 /// Runs the trials of a campaign and counts their codes, of which the host shows progress unless the options are
@@ -51,7 +45,7 @@ pub fn trials_command<R: Threads + Wait + Sync, H: Host>(
         None => {
             let progress = host.progress(Some(options.campaign.trials()), options.quiet);
             let counts = campaign_answer(rt, alloc, &options.campaign, options.workers, &progress)?;
-            Ok(headed(alloc, options, counts)?)
+            Ok(headed(alloc, campaign_header(options), counts)?)
         }
     }
 }

@@ -40,6 +40,8 @@ option_refusal_name refused.Show = codes "K10"
 option_refusal_name refused.States = codes "K12"
 option_refusal_name refused.Runs = codes "K13"
 option_refusal_name refused.Cycles = codes "K14"
+option_refusal_name refused.Shard = codes "K15"
+option_refusal_name refused.Lines = codes "K16"
 
 -- the line that is printed of refused options
 abbrev pub option_line : OptionRefusal → List ℕ

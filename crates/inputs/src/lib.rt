@@ -1,6 +1,7 @@
 //! The named inputs of a command: their bytes, the program or the recording that they are, or why the command fails.
 #![tactic(auto)]
 
+mod advice;
 mod causes;
 mod command_error;
 mod command_stop;
@@ -10,6 +11,7 @@ mod named;
 mod reading;
 mod refusal;
 
+pub use advice::advice;
 pub use command_error::CommandError;
 pub use command_stop::{CommandStop, PrintedRefusal};
 pub use failure::{asks_for_words, error_text};

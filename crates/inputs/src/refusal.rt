@@ -61,6 +61,8 @@ fn option_refusal_name(refusal: OptionRefusal) -> &'static str
         OptionRefusal::States => "K12",
         OptionRefusal::Runs => "K13",
         OptionRefusal::Cycles => "K14",
+        OptionRefusal::Shard => "K15",
+        OptionRefusal::Lines => "K16",
     }
 }
 

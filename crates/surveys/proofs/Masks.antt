@@ -1,5 +1,5 @@
 -- The lines of bytes of which others are masked.
-use Rattle.std.proofs.Common.{◌≡◌, ◌∙◌, ◌<◌, ◌++◌, ◌∷◌, [], ℕ, List, Option, None, Some, ap, append-nil, arith, drop, filter, inl, inr, length, refl, suc, sym, take, true, false, zero}
+use Rattle.std.proofs.Common.{◌≡◌, ◌∙◌, ◌<◌, ◌++◌, ◌∷◌, [], ℕ, List, Option, None, Some, ap, append-nil, arith, is_some, true≢false, drop, filter, inl, inr, length, refl, suc, sym, take, true, false, zero}
 use Rattle.std.specs.List.{onto_first, slice_split}
 use Rattle.std.proofs.lemmas.Bool.{cases_Bool}
 use Rattle.std.proofs.lemmas.List.Elements.{filter-append}
@@ -26,11 +26,11 @@ first_part (part ∷ rest) one = (part, rest, refl)
 some_part : (bytes : List ℕ) → SomePart (parts bytes)
 some_part bytes = first_part (parts bytes) (omega (arith, length-slice_split is_end bytes))
 
-take_nil : (n : ℕ) → take n ([] {A = List ℕ}) ≡ []
+take_nil : (n : ℕ) → ◌≡◌ {A = List (List ℕ)} (take n []) []
 take_nil zero = refl
 take_nil (suc n) = refl
 
-drop_nil : (n : ℕ) → drop n ([] {A = List ℕ}) ≡ []
+drop_nil : (n : ℕ) → ◌≡◌ {A = List (List ℕ)} (drop n []) []
 drop_nil zero = refl
 drop_nil (suc n) = refl
 
@@ -48,37 +48,33 @@ abbrev AreFirst : ℕ → List ℕ → Type 0
 AreFirst n bytes = (others : List (List ℕ)) × (some others ≡ [])
     × (parts (masked 0 (Some (suc n)) bytes) ≡ take (suc n) (parts bytes) ++ others)
 
+-- a byte that ends no line belongs to the first part
+after_other : (b : ℕ) (bytes : List ℕ) (n : ℕ) → is_end b ≡ false → AreFirst n bytes → AreFirst n (b ∷ bytes)
+after_other b bytes n other (others, none, is) = let (part, rest, whole) = some_part bytes in (
+  others,
+  none,
+  rw other (ap (onto_first b) (is ∙ ap (λ (all : List (List ℕ)). take (suc n) all ++ others) whole)
+  ∙ sym (ap (λ (all : List (List ℕ)). take (suc n) (onto_first b all) ++ others) whole)),
+)
+
+-- the end of the last of them
+last_end : (b : ℕ) (bytes : List ℕ) → is_end b ≡ true → AreFirst 0 (b ∷ bytes)
+last_end b bytes ends = (parts (masked 0 (Some 0) bytes), no_lines bytes, rw ends refl)
+
+-- the end of another
+after_end : (b : ℕ) (bytes : List ℕ) (n : ℕ) → is_end b ≡ true → AreFirst n bytes → AreFirst (suc n) (b ∷ bytes)
+after_end b bytes n ends (others, none, is) = (others, none, rw ends (ap (λ (all : List (List ℕ)). [] ∷ all) is))
+
 first_parts : (bytes : List ℕ) (n : ℕ) → AreFirst n bytes
 first_parts [] n = ([], refl, ap (λ (all : List (List ℕ)). ([] ∷ all) ++ []) (sym (take_nil n)))
-first_parts (b ∷ bytes) n = elim (cases_Bool (is_end b)) [
-  | inr other ↦
-      let (others, none, is) = first_parts bytes n in let (part, rest, whole) = some_part bytes in (
-        others,
-        none,
-        rw other (slice_split-cons_no is_end b (masked 0 (Some (suc n)) bytes) other
-        ∙ ap (onto_first b) (is ∙ ap (λ (all : List (List ℕ)). take (suc n) all ++ others) whole)
-        ∙ sym (ap (λ (all : List (List ℕ)). take (suc n) all ++ others)
-        (slice_split-cons_no is_end b bytes other ∙ ap (onto_first b) whole))),
-      )
-  | inl ends ↦ ended b bytes n ends
+first_parts (b ∷ bytes) zero = elim (cases_Bool (is_end b)) [
+  | inl ends ↦ last_end b bytes ends
+  | inr other ↦ after_other b bytes zero other (first_parts bytes zero)
 ]
-where
-  ended : (b : ℕ) (bytes : List ℕ) (n : ℕ) → is_end b ≡ true → AreFirst n (b ∷ bytes)
-  ended b bytes zero ends = (
-    parts (masked 0 (Some 0) bytes),
-    no_lines bytes,
-    rw ends (slice_split-cons_yes is_end b (masked 0 (Some 0) bytes) ends
-    ∙ sym (ap (λ (all : List (List ℕ)). take 1 all ++ parts (masked 0 (Some 0) bytes))
-    (slice_split-cons_yes is_end b bytes ends))),
-  )
-  ended b bytes (suc n) ends = let (others, none, is) = first_parts bytes n in (
-    others,
-    none,
-    rw ends (slice_split-cons_yes is_end b (masked 0 (Some (suc n)) bytes) ends
-    ∙ ap (λ (all : List (List ℕ)). [] ∷ all) is
-    ∙ sym (ap (λ (all : List (List ℕ)). take (suc (suc n)) all ++ others)
-    (slice_split-cons_yes is_end b bytes ends))),
-  )
+first_parts (b ∷ bytes) (suc n) = elim (cases_Bool (is_end b)) [
+  | inl ends ↦ after_end b bytes n ends (first_parts bytes n)
+  | inr other ↦ after_other b bytes (suc n) other (first_parts bytes (suc n))
+]
 
 -- where no line comes before
 masked_after : (bytes : List ℕ) (count : Option ℕ)
@@ -98,11 +94,22 @@ masked_lines bytes zero count = masked_after bytes count
 masked_lines [] (suc n) count = sym (ap (λ (all : List (List ℕ)). some (at_most count all)) (drop_nil n)
     ∙ ap some (none_at_most count))
 masked_lines (b ∷ bytes) (suc n) count = elim (cases_Bool (is_end b)) [
-  | inl ends ↦ rw ends (masked_lines bytes n count
-      ∙ sym (ap (λ (all : List (List ℕ)). some (at_most count (drop (suc n) all)))
-      (slice_split-cons_yes is_end b bytes ends)))
+  | inl ends ↦ rw ends (masked_lines bytes n count)
   | inr other ↦ let (part, rest, whole) = some_part bytes in rw other (masked_lines bytes (suc n) count
       ∙ ap (λ (all : List (List ℕ)). some (at_most count (drop (suc n) all))) whole
-      ∙ sym (ap (λ (all : List (List ℕ)). some (at_most count (drop (suc n) all)))
-      (slice_split-cons_no is_end b bytes other ∙ ap (onto_first b) whole)))
+      ∙ sym (ap (λ (all : List (List ℕ)). some (at_most count (drop (suc n) (onto_first b all)))) whole))
 ]
+
+-- without a range all bytes stay
+pub unmasked : (bytes : List ℕ) → masked zero None bytes ≡ bytes
+unmasked [] = refl
+unmasked (b ∷ bytes) = refl
+
+pub unmasked_by : (before : ℕ) (count : Option ℕ) → before ≡ 0 → count ≡ None → (bytes : List ℕ)
+    → masked before count bytes ≡ bytes
+unmasked_by before count first all bytes = rw first (rw all (unmasked bytes))
+
+-- an option that is none
+pub no_count : (count : Option ℕ) → is_some count ≡ false → count ≡ None
+no_count None none = refl
+no_count (Some n) none = absurd (true≢false none)

@@ -5,9 +5,13 @@ use Rattle.surveys.specs.Lines.{IsWhole, lines}
 use Rattle.surveys.specs.declared.showing.Sought.{Sought}
 use Rattle.surveys.specs.declared.showing.Sought.TheVariants.{Found, Later}
 
+-- the line of this number among some
+abbrev pub IsLineAmong : List (List ℕ) → ℕ → List ℕ → Type 0
+IsLineAmong all k line = (k < length all) × (slice_index_or all k [] ≡ line)
+
 -- the line of this number
 abbrev pub IsLineAt : List ℕ → ℕ → List ℕ → Type 0
-IsLineAt bytes k line = (k < length (lines bytes)) × (slice_index_or (lines bytes) k [] ≡ line)
+IsLineAt bytes k line = IsLineAmong (lines bytes) k line
 
 -- it, or that there are fewer
 abbrev pub IsLineOf : List ℕ → ℕ → Option (List ℕ) → Type 0

@@ -24,5 +24,6 @@ pub use each::each_text;
 pub use error::SurveyError;
 pub use kind::LineKind;
 pub use ledger::{Finding, SurveyLedger};
+pub use range::{LineRange, LinesOf};
 pub use showing::line_of;
 pub use surveying::survey;
