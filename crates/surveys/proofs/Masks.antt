@@ -1,5 +1,5 @@
 -- The lines of bytes of which others are masked.
-use Rattle.std.proofs.Common.{◌≡◌, ◌∙◌, ◌<◌, ◌++◌, ◌∷◌, [], ℕ, List, Option, None, Some, ap, append-nil, arith, is_some, true≢false, drop, filter, inl, inr, length, refl, suc, sym, take, true, false, zero}
+use Rattle.std.proofs.Common.{◌≡◌, ◌∙◌, ◌<◌, ◌++◌, ◌∷◌, [], ℕ, List, Option, None, Some, ap, append-nil, arith, is_some, if◌then◌else◌, true≢false, drop, filter, inl, inr, length, refl, suc, sym, take, true, false, zero}
 use Rattle.std.specs.List.{onto_first, slice_split}
 use Rattle.std.proofs.lemmas.Bool.{cases_Bool}
 use Rattle.std.proofs.lemmas.List.Elements.{filter-append}
@@ -99,6 +99,16 @@ masked_lines (b ∷ bytes) (suc n) count = elim (cases_Bool (is_end b)) [
       ∙ ap (λ (all : List (List ℕ)). some (at_most count (drop (suc n) all))) whole
       ∙ sym (ap (λ (all : List (List ℕ)). some (at_most count (drop (suc n) (onto_first b all)))) whole))
 ]
+
+-- no byte goes, and none comes
+pub masked_length : (bytes : List ℕ) (before : ℕ) (count : Option ℕ)
+    → length (masked before count bytes) ≡ length bytes
+masked_length [] before count = refl
+masked_length (b ∷ bytes) (suc n) count = ap suc (masked_length bytes (if is_end b then n else suc n) count)
+masked_length (b ∷ bytes) zero None = refl
+masked_length (b ∷ bytes) zero (Some zero) = ap suc (masked_length bytes zero (Some zero))
+masked_length (b ∷ bytes) zero (Some (suc n)) =
+    ap suc (masked_length bytes zero (Some (if is_end b then n else suc n)))
 
 -- without a range all bytes stay
 pub unmasked : (bytes : List ℕ) → masked zero None bytes ≡ bytes

@@ -21,7 +21,7 @@ pub struct LinesOf<R> {
 }
 
 impl<R: Source> LinesOf<R> {
-    ghost use Rattle.std.specs.Prelude.{◌≡◌, ◌++◌, ◌-◌, ◌∷◌, ℕ, List, true};
+    ghost use Rattle.std.specs.Prelude.{◌≡◌, ◌++◌, ◌-◌, ◌∷◌, ℕ, List, length, true};
     ghost use Rattle.surveys.specs.Lines.{lines};
     ghost use Rattle.surveys.specs.Ranges.{lines_in, masked};
 
@@ -31,6 +31,7 @@ impl<R: Source> LinesOf<R> {
         ensures before { result.before ≡ range.first - 1 }
         ensures count { result.count ≡ range.count }
         ensures lines { (bytes : List ℕ) → lines (masked (range.first - 1) range.count bytes) ≡ lines_in range bytes }
+        ensures size { (bytes : List ℕ) → length (masked (range.first - 1) range.count bytes) ≡ length bytes }
     {
         LinesOf {
             source,
