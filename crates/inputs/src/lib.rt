@@ -1,7 +1,6 @@
 //! The named inputs of a command: their bytes, the program or the recording that they are, or why the command fails.
 #![tactic(auto)]
 
-mod advice;
 mod causes;
 mod command_error;
 mod command_stop;
@@ -10,8 +9,8 @@ mod meanings;
 mod named;
 mod reading;
 mod refusal;
+mod unfinished;
 
-pub use advice::advice;
 pub use command_error::CommandError;
 pub use command_stop::{CommandStop, PrintedRefusal};
 pub use failure::{asks_for_words, error_text};
@@ -19,3 +18,4 @@ pub use meanings::{explained, quoted};
 pub use named::{labels_at, program_at, recording_at, values_at};
 pub use reading::{opened, text_at};
 pub use refusal::{line_refusal, option_refusal, step_refusal_name};
+pub use unfinished::advice;
