@@ -29,12 +29,11 @@ if [ ! -s "$FOLDER/campaign" ]; then
     mv "$FOLDER/campaign.$SLURM_ARRAY_TASK_ID" "$FOLDER/campaign"
 fi
 read -r shards options < "$FOLDER/campaign"
-first=$((SLURM_ARRAY_TASK_ID * each + 1))
-last=$((first + each - 1))
+first=$((SLURM_ARRAY_TASK_ID * each + 1)) last=$(((SLURM_ARRAY_TASK_ID + 1) * each))
 [ "$last" -le "$shards" ] || last=$shards
-echo "$(date) $(uname -n): shards $first to $last of $shards"
+echo "$(date): $(uname -n) runs shards $first to $last of $shards"
 for k in $(seq "$first" "$last"); do
     # shellcheck disable=SC2086
     "$here/shard" "$FOLDER" "$shards" "$k" $options || exit 1
 done
-echo "$(date) $(uname -n): done"
+echo "$(date): done"
