@@ -1,6 +1,6 @@
 //! What is answered of many runs of a program.
 
-ghost use Rattle.std.specs.Prelude.{◌≡◌, IfErr, IfOk};
+ghost use Rattle.std.specs.Prelude.{◌≡◌, ◌<◌, IfErr, IfOk};
 ghost use Rattle.live.specs.Driven.{IsDriveError};
 ghost use Rattle.answers.specs.Histogram.{IsLiveHistogramAnswer, IsSeededHistogramAnswer, histogram_outcome};
 
@@ -29,14 +29,16 @@ fn outcome_of(histogram: &Histogram) -> Outcome
 }
 
 /// The histogram of random runs of a program. Fails only if out of memory.
-pub fn seeded_histogram_answer(
+pub fn seeded_histogram_answer<R: Threads + Sync>(
+    rt: &R,
     alloc: Global,
     program: &Program,
     runs: &SeededRuns,
 ) -> Result<Answer, OutOfMemory>
+    requires { 0 < runs.now.workers }
     ensures { IfOk result (IsSeededHistogramAnswer program.now runs.now) }
 {
-    let histogram = seeded_histogram(alloc, program, runs)?;
+    let histogram = seeded_histogram(rt, alloc, program, runs)?;
     let text = histogram_text(alloc, program, Mark::Seed(runs.seed), &histogram)?;
     let outcome = outcome_of(&histogram);
     Ok(Answer { outcome, text })

@@ -18,7 +18,7 @@ commands = (
   codes "run",
   (codes "PROGRAM", Place) ∷ (codes "steps", Word) ∷ (codes "seed", Number)
       ∷ (codes "attempts", Number) ∷ (codes "buffer", Number) ∷ (codes "fault", Word) ∷ (codes "runs", Number)
-      ∷ (codes "words", Nothing) ∷ [],
+      ∷ (codes "workers", Number) ∷ (codes "words", Nothing) ∷ [],
 )
     ∷ (codes "judge", (codes "FILE", Place) ∷ (codes "workers", Number) ∷ (codes "long", Nothing) ∷ (codes "words", Nothing) ∷ [])
     ∷ (

@@ -17,7 +17,7 @@ use Rattle.command_line.specs.declared.options.Misfit.TheVariants.{EachWithShow,
 use Rattle.command_line.specs.declared.options.Misfit.TheVariants.{StatesWithoutComplete}
 use Rattle.command_line.specs.declared.options.Misfit.TheVariants.{HeaderWithComplete, HeaderWithEach, HeaderWithoutLines}
 use Rattle.command_line.specs.declared.options.Misfit.TheVariants.{RunsWithSteps, TwoQuestions, UnseenWithoutObserved, WhyWithoutObserved}
-use Rattle.command_line.specs.declared.options.Misfit.TheVariants.{ProgramWithLong, WorkersWithLong}
+use Rattle.command_line.specs.declared.options.Misfit.TheVariants.{ProgramWithLong, WorkersWithLong, WorkersWithoutRuns}
 use Rattle.command_line.specs.declared.options.Misfit.TheVariants.{CycleWithAll, ForbiddenWithoutAll, NoCycle}
 use Rattle.command_line.specs.declared.options.TheConstants.{DEFAULT_FAULT}
 use Rattle.command_line.specs.declared.table.Takes.{Takes}
@@ -115,9 +115,14 @@ survey_misfit rows =
     else (if is_some (one_of (codes "states") rows) && surveys_recordings rows then Some StatesWithoutComplete
     else header_misfit rows)
 
--- the options of runs that don't go together: --runs with --steps
+-- the words are those of run, of whose program's runs workers share some: no other command takes a program and workers
+abbrev pub shares_runs : List Row → Bool
+shares_runs rows = is_some (one_of (codes "workers") rows) && not (given (codes "PROGRAM") rows == 0)
+
+-- the options of runs that don't go together: --runs with --steps, or --workers without --runs
 abbrev pub runs_misfit : List Row → Option Misfit
-runs_misfit rows = if is_some (runs_of rows) && not (given (codes "steps") rows == 0) then Some RunsWithSteps else None
+runs_misfit rows = if is_some (runs_of rows) && not (given (codes "steps") rows == 0) then Some RunsWithSteps
+    else (if shares_runs rows && not (is_some (runs_of rows)) then Some WorkersWithoutRuns else None)
 
 -- a text with a space at its end, unless it is empty
 abbrev pub with_space : Text → Text

@@ -110,6 +110,7 @@ pub record AreRunOptions (o : RunOptions) (rows : List Row) : Type 0 where
   pub buffer : IsNumber (codes "buffer") BUFFER rows o.buffer
   pub fault : machine_fault_of rows ≡ Some o.fault
   pub runs : AreRuns o.runs rows
+  pub workers : IsNumber (codes "workers") WORKERS rows o.workers
 
 -- each option of judge without --long is its entry, or else its default
 pub record AreJudgeOptions (o : JudgeOptions) (rows : List Row) : Type 0 where

@@ -121,6 +121,7 @@ fn run_options(
         buffer: values.buffer,
         fault: values.fault,
         runs: values.runs,
+        workers: values.workers,
     })
 }
 

@@ -150,6 +150,8 @@ pub struct RunOptions {
     pub fault: Fault,
     /// How many random runs a histogram counts, 1 to 2^32 - 1; none asks for one run and its recording.
     pub runs: Option<usize>,
+    /// How many workers share these runs at most, 1 to `MAX_WORKERS`.
+    pub workers: usize,
 }
 
 /// What `judge` is asked without `--long`: the name of the recording, and how many workers judge it at most.
@@ -376,6 +378,8 @@ pub enum Misfit {
     WhyWithoutObserved,
     /// `--runs` counts random runs, and `--steps` names the steps of one.
     RunsWithSteps,
+    /// `--workers` of `run` share the runs of `--runs`.
+    WorkersWithoutRuns,
     /// `--long` needs no thread, and `--workers` shares work among some.
     WorkersWithLong,
     /// A program names the addresses of a recording that is no larger, and `--long` takes larger ones.
@@ -434,6 +438,11 @@ impl Display for Misfit {
             Misfit::RunsWithSteps => {
                 f.write_str(
                     "error: the argument '--runs <N>' cannot be used with '--steps <FILE>'",
+                )?;
+            }
+            Misfit::WorkersWithoutRuns => {
+                f.write_str(
+                    "error: the following required arguments were not provided:\n  --runs <N>",
                 )?;
             }
             Misfit::WorkersWithLong => {

@@ -62,6 +62,7 @@ With `--runs N` the outcomes of N runs are counted instead, each with the next s
 for each outcome, as litmus7 prints it, the most frequent first, with how often it occurred,
 `*>` where one of its runs is a violation and else `:>`, and the seed of the first of its
 runs; then how many runs are unfinished, if some are. `outcomes --observed` takes the text.
+The counts do not depend on the number of workers.
 
 A machine may be wrong in one way, and may then record a violation: with `no-bypass` loads
 don't look in their core's buffer, with `youngest-first` the youngest store drains first,

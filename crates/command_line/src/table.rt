@@ -185,6 +185,13 @@ const WORKERS: ArgumentRow = ArgumentRow {
     help: "The most threads that share the work, from 1 to 32 [default: 1]",
 };
 
+const WORKERS_OF_RUNS: ArgumentRow = ArgumentRow {
+    name: "workers",
+    takes: Takes::Number,
+    value: "N",
+    help: "The most threads that share the runs, from 1 to 32 [default: 1]; only with --runs",
+};
+
 const SHOW: ArgumentRow = ArgumentRow {
     name: "show",
     takes: Takes::Number,
@@ -378,7 +385,17 @@ const SHOW_ITEMS: ArgumentRow = ArgumentRow {
 pub const COMMANDS: &[CommandRow] = &[
     CommandRow {
         name: "run",
-        arguments: &[PROGRAM, STEPS, SEED, ATTEMPTS, BUFFER, FAULT, RUNS, WORDS],
+        arguments: &[
+            PROGRAM,
+            STEPS,
+            SEED,
+            ATTEMPTS,
+            BUFFER,
+            FAULT,
+            RUNS,
+            WORKERS_OF_RUNS,
+            WORDS,
+        ],
     },
     CommandRow {
         name: "judge",

@@ -38,7 +38,14 @@ IsRunOf inputs o program None answer = IsSeededAnswer program o.buffer o.fault o
 
 -- the random runs that are counted
 abbrev pub seeded_runs : RunOptions → ℕ → SeededRuns
-seeded_runs o n = record { seed = o.seed; runs = n; attempts = o.attempts; buffer = o.buffer; fault = o.fault }
+seeded_runs o n = record {
+  seed = o.seed;
+  runs = n;
+  attempts = o.attempts;
+  buffer = o.buffer;
+  fault = o.fault;
+  workers = o.workers;
+}
 
 -- the answer of one run, or the histogram of as many as are counted
 abbrev pub IsRunsAnswer : (List ℕ → Option (List ℕ)) → RunOptions → Parts → Option ℕ → Answer → Type 0

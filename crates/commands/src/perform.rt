@@ -92,7 +92,7 @@ fn answer_to<R: Threads + Wait + Sync, H: Host>(
     ensures reads { ReadsNamed (input_names options.now) (H.log host.old) (H.log host.new) result }
 {
     match options {
-        Options::Run(run) => run_command(alloc, run, host),
+        Options::Run(run) => run_command(rt, alloc, run, host),
         Options::Judge(_) => unreachable!(),
         Options::JudgeLong(long) => long_command(alloc, long, host),
         Options::Trials(trials) => trials_command(rt, alloc, trials, host),

@@ -1,5 +1,7 @@
 //! The command `run`.
-ghost use Rattle.std.specs.Prelude.{◌∷◌, [], IfErr, IfOk, option_map, string_bytes};
+ghost use Rattle.std.specs.Prelude.{◌∷◌, [], IfErr, IfOk, List, option_map, string_bytes};
+ghost use Rattle.clap.specs.Words.{Row};
+ghost use Rattle.command_line.specs.Options.{AreRunOptions};
 ghost use Rattle.inputs.specs.Inputs.{CanRead, ReadsNamed};
 ghost use Rattle.commands.specs.Command.{input_names, script_name};
 ghost use Rattle.command_line.specs.declared.options.Options.{Options};
@@ -14,6 +16,7 @@ use machine::{StepsError, parse_steps};
 use program::Program;
 use report::Answer;
 use std::alloc::Global;
+use std::thread::Threads;
 
 /// The answer of a program that is run by the script of this name.
 fn script_run<H: Host>(
@@ -46,12 +49,14 @@ fn script_run<H: Host>(
 
 /// Runs the named program by the named script, or else by random steps, or counts random runs; the program is read
 /// before the script is opened.
-pub fn run_command<H: Host>(
+pub fn run_command<R: Threads + Sync, H: Host>(
+    rt: &R,
     alloc: Global,
     options: &RunOptions,
     host: &mut H,
 ) -> Result<Answer, CommandStop>
-    requires { CanRead (H.log host.old).tally }
+    requires options { (rows : List Row) × AreRunOptions options.now rows }
+    requires inputs { CanRead (H.log host.old).tally }
     ensures ok { IfOk result (IsRun (H.bytes host.old) options.now) }
     ensures err { IfErr result
         (IsRunStop (H.bytes host.old) options.now
@@ -67,8 +72,9 @@ pub fn run_command<H: Host>(
                 attempts: options.attempts,
                 buffer: options.buffer,
                 fault: options.fault,
+                workers: options.workers,
             };
-            Ok(seeded_histogram_answer(alloc, &program, &runs)?)
+            Ok(seeded_histogram_answer(rt, alloc, &program, &runs)?)
         }
         (None, Some(name)) => script_run(alloc, program, options, name.as_str(), host),
         (None, None) => Ok(seeded_answer(

@@ -1,5 +1,6 @@
 -- Runs of a program, one after another.
-use Rattle.std.specs.Prelude.{◌≡◌, ◌<◌, ◌+◌, ◌%◌, ◌^◌, ℕ, List, Option, None, length, slice_index_or}
+use Rattle.std.specs.Prelude.{◌≡◌, ◌<◌, ◌+◌, ◌%◌, ◌^◌, ℕ, IfOk, List, Ok, Option, None, Result, length, slice_index_or}
+use Rattle.common.specs.declared.memory.OutOfMemory.{OutOfMemory}
 use Rattle.rand_xoshiro.specs.SplitMix64.{splitmix_seed}
 use Rattle.rand_xoshiro.specs.Xoshiro256.{of_seed}
 use Rattle.program.specs.Parts.{Parts}
@@ -25,6 +26,11 @@ pub record IsSeededRun (p : Parts) (o : SeededRuns) (run : ℕ) (s : Option Seen
 -- what is seen of as many runs as there are, from this one on
 abbrev pub AreSeededFrom : Parts → SeededRuns → ℕ → List (Option Seen) → Type 0
 AreSeededFrom p o first runs = (k : ℕ) → k < length runs → IsSeededRun p o (first + k) (slice_index_or runs k None)
+
+-- what is seen of runs from this one on, for which there was memory
+abbrev pub AreMadeFrom : Parts → SeededRuns → ℕ → List (Result (Option Seen) OutOfMemory) → Type 0
+AreMadeFrom p o first slots = (k : ℕ) → k < length slots
+    → IfOk (slice_index_or slots k (Ok None)) (IsSeededRun p o (first + k))
 
 -- what is seen of all runs
 pub record AreSeededRuns (p : Parts) (o : SeededRuns) (runs : List (Option Seen)) : Type 0 where
