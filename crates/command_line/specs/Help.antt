@@ -1,6 +1,6 @@
 -- What the help says of limits, defaults and names.
-use Rattle.std.specs.Prelude.{◌||◌, ◌&&◌, ◌++◌, ℕ, Bool, List, [], ◌∷◌, Option, codes, drop, if◌then◌else◌}
-use Rattle.std.specs.Prelude.{length, map, nat_eq, nat_lt, not, option_map, take}
+use Rattle.std.specs.Prelude.{◌||◌, ◌&&◌, ◌++◌, ℕ, Bool, List, [], ◌∷◌, Option, Some, None, codes, if◌then◌else◌}
+use Rattle.std.specs.Prelude.{map, nat_eq, nat_lt, not, option_map, unwrap_or}
 use Rattle.std.specs.Char.{digit_value}
 use Rattle.std.specs.List.{list_all}
 use Rattle.std.specs.Str.{bytes_eq}
@@ -13,12 +13,16 @@ use Rattle.command_line.specs.declared.options.TheConstants.{LIMIT, STATES, TRIA
 use Rattle.command_line.specs.declared.table.CommandRow.{CommandRow}
 use Rattle.headers.specs.Faults.{fault_name, faults}
 
+-- what stands after a part with which the text begins
+abbrev pub after_start : Text → Text → Option Text
+after_start [] text = Some text
+after_start (p ∷ part) [] = None
+after_start (p ∷ part) (c ∷ text) = if nat_eq p c then after_start part text else None
+
 -- what stands after the first place of a part in the text
 abbrev pub text_after : Text → Text → Text
 text_after part [] = []
-text_after part (c ∷ rest) =
-    if bytes_eq (take (length part) (c ∷ rest)) part then drop (length part) (c ∷ rest)
-    else text_after part rest
+text_after part (c ∷ rest) = unwrap_or (after_start part (c ∷ rest)) (text_after part rest)
 
 -- the digits at the start of the text
 abbrev pub leading_digits : Text → Text

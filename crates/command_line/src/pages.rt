@@ -62,7 +62,7 @@ With `--runs N` the outcomes of N runs are counted instead, each with the next s
 for each outcome, as litmus7 prints it, the most frequent first, with how often it occurred,
 `*>` where one of its runs is a violation and else `:>`, and the seed of the first of its
 runs; then how many runs are unfinished, if some are. `outcomes --observed` takes the text.
-The counts do not depend on the number of workers.
+The counts do not depend on the number of workers, which go with `--runs` alone.
 
 A machine may be wrong in one way, and may then record a violation: with `no-bypass` loads
 don't look in their core's buffer, with `youngest-first` the youngest store drains first,
@@ -133,7 +133,8 @@ as by `run`, and the exit status is that of `run`. With `--reduce` a violation i
 first, as by `reduce`.
 
 With `--header` the first line is the command that prints these counts, with all options
-that matter to them. By it `merge` knows which trials they are of.
+that matter to them. By it `merge` knows which trials they are of. What `--show` shows has
+none.
 
 With `--shard I/N` the I-th of N parts of the trials is run alone, as by `--seed` and
 `--trials` of its own, which `--header` prints. All N parts have all trials, each one once;
@@ -309,8 +310,8 @@ workers.
 
 With `--from F` and `--lines N` only lines F to F + N - 1 are surveyed, as if the input had
 no others. Lines are numbered from 1, the empty ones among them. So one file is dealt out to
-several commands; with `--header` each one's first line says which lines it counts, and
-`merge` adds them up.
+several commands; with `--header`, which asks for `--lines`, each one's first line says which
+lines it counts, and `merge` adds them up.
 
 With `--complete` each line has values alone, as `complete` reads them. It prints
 `recordings N`, how many there are; `ordered N`, how many TSO allows; `impossible N`, how

@@ -147,7 +147,7 @@ const SHARD: ArgumentRow = ArgumentRow {
     name: "shard",
     takes: Takes::Text,
     value: "I/N",
-    help: "Runs the I-th of N parts of the trials alone, from 1; with it --trials is below 2^64",
+    help: "Runs the I-th of N parts of the trials alone, from 1",
 };
 
 const ATTEMPTS: ArgumentRow = ArgumentRow {
@@ -185,13 +185,6 @@ const WORKERS: ArgumentRow = ArgumentRow {
     help: "The most threads that share the work, from 1 to 32 [default: 1]",
 };
 
-const WORKERS_OF_RUNS: ArgumentRow = ArgumentRow {
-    name: "workers",
-    takes: Takes::Number,
-    value: "N",
-    help: "The most threads that share the runs, from 1 to 32 [default: 1]; only with --runs",
-};
-
 const SHOW: ArgumentRow = ArgumentRow {
     name: "show",
     takes: Takes::Number,
@@ -224,7 +217,7 @@ const LINES: ArgumentRow = ArgumentRow {
     name: "lines",
     takes: Takes::Number,
     value: "N",
-    help: "The most lines that are surveyed, the empty ones among them [default: all]",
+    help: "The most lines that are surveyed [default: all]",
 };
 
 const REDUCE: ArgumentRow = ArgumentRow {
@@ -259,14 +252,7 @@ const HEADER: ArgumentRow = ArgumentRow {
     name: "header",
     takes: Takes::Nothing,
     value: "",
-    help: "Prints the command that prints these counts before them, so that `merge` knows them; not with --show",
-};
-
-const HEADER_OF_LINES: ArgumentRow = ArgumentRow {
-    name: "header",
-    takes: Takes::Nothing,
-    value: "",
-    help: "Prints the command that prints these counts before them, so that `merge` knows them; only with --lines",
+    help: "Prints the command that prints these counts before them, for `merge`",
 };
 
 const PARTIAL: ArgumentRow = ArgumentRow {
@@ -386,15 +372,7 @@ pub const COMMANDS: &[CommandRow] = &[
     CommandRow {
         name: "run",
         arguments: &[
-            PROGRAM,
-            STEPS,
-            SEED,
-            ATTEMPTS,
-            BUFFER,
-            FAULT,
-            RUNS,
-            WORKERS_OF_RUNS,
-            WORDS,
+            PROGRAM, STEPS, SEED, ATTEMPTS, BUFFER, FAULT, RUNS, WORKERS, WORDS,
         ],
     },
     CommandRow {
@@ -444,7 +422,7 @@ pub const COMMANDS: &[CommandRow] = &[
             REDUCE,
             COMPLETE,
             STATES,
-            HEADER_OF_LINES,
+            HEADER,
             QUIET,
             WORDS,
         ],
