@@ -13,7 +13,9 @@ use Rattle.indexmap.proofs.CallerLemmas.{Contains-insert_key}
 use Rattle.program.specs.declared.op.Op.{Op}
 use Rattle.program.specs.Parts.{Parts, IsProgram}
 use Rattle.outcomes.specs.Outcome.{Outcome, IsAllowed, AreOutcomes}
-use Rattle.outcomes.specs.Situation.{Situation, moved, beginning, between, ops_of, oldest, place_of, drained_of}
+use Rattle.outcomes.specs.Situation.{Situation, moved, beginning, ops_of, place_of, drained_of}
+use Rattle.situations.specs.Step.{stored_by_op}
+use Rattle.situations.specs.Waiting.{between, oldest}
 use Rattle.outcomes.specs.Situation.{IsOver, IsEnd}
 use Rattle.outcomes.specs.Reachable.{Leads, here, further, AreReachable, outcome_in, ComesTo, EveryOutcomeIsReached}
 use Rattle.outcomes.specs.Listed.{same_outcome, with_outcome, IsEnding, AreEndings}
@@ -96,7 +98,7 @@ pub over_past : (p : List (List Op)) (r : Situation) (c : ℕ) → length p ≤ 
 over_past p r c past =
     let none : ops_of p c ≡ [] = get_or_past p c [] past in (
       ap (λ (l : List Op). slice_get l (place_of r c)) none,
-      ap (λ (l : List Op). oldest (drained_of r c) l)
+      ap (λ (l : List Op). oldest stored_by_op (drained_of r c) l)
           (ap (λ (l : List Op). between l (drained_of r c) (place_of r c)) none
           ∙ empty (drained_of r c) (place_of r c)),
     )

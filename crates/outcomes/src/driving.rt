@@ -10,7 +10,6 @@ ghost use Rattle.outcomes.specs.Witness.{op_moved};
 
 use crate::moves::{Move, Turn};
 use crate::opening::{beginning, op_count};
-use crate::ops::{between, oldest};
 use crate::reads::first_event;
 use crate::row::Row;
 use crate::steps::after;

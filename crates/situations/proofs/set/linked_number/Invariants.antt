@@ -1,6 +1,6 @@
 use Rattle.std.proofs.Common.{length}
 use Rattle.situations.proofs.ChainedLists.{IsWalk}
-use Rattle.situations.proofs.set.is_linked.Given as goal
+use Rattle.situations.proofs.set.linked_number.Given as goal
 
 abbrev pub invariant-loop-at : goal.invariant-loop-at
 invariant-loop-at l = IsWalk l.lists.lists (length l.heads) l.list l.at

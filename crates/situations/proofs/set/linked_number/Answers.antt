@@ -1,8 +1,9 @@
-use Rattle.std.proofs.Common.{◌≡◌, ◌≢◌, ◌<◌, ◌-◌, ◌∙◌, [], ℕ, List, arith, get_or, length, subst, suc, sym, ap, refl}
-use Rattle.std.specs.Cmp.Lexicographic.{other_text}
+use Rattle.std.proofs.Common.{◌≡◌, ◌≢◌, ◌<◌, ◌-◌, ◌∙◌, [], ℕ, List, Some, arith, get_or, length, subst, suc, sym, ap, refl}
+use Rattle.std.proofs.lemmas.Option.{slice_get-get_or}
+use Rattle.std.specs.Cmp.Lexicographic.{other_text, same_text}
 use Rattle.situations.specs.Chains.{bucket_of}
 use Rattle.situations.proofs.ChainedLists.{IsWalk, last_few, walk_begun, walk_done, walk_on}
-use Rattle.situations.proofs.set.is_linked.Goals as goal
+use Rattle.situations.proofs.set.linked_number.Goals as goal
 
 pub loop-at-init : goal.loop-at-init
 loop-at-init c =
@@ -34,11 +35,19 @@ loop-at-preserved c =
     walk_on lists c.args.heads.now c.args.next.now c.args.list.now c.requires.chained c.loop-at.at i
     (get_or c.args.next.now i 0) c.loop-at.invariant here other refl
 
-pub returns : goal.returns
-returns c =
+pub returns-then-eq-clause-found : goal.returns-then-eq-clause-found
+returns-then-eq-clause-found c =
     let lists : List (List ℕ) = c.args.lists.now.lists in
-    let none : c.loop-at.at ≡ 0 = omega (arith, c.loop-at-test.false) in (
-      λ yes. absurd cc,
-      λ there. absurd (walk_done lists c.args.heads.now c.args.next.now c.args.list.now c.requires.chained
-          (subst (IsWalk lists (length c.args.heads.now) c.args.list.now) none c.loop-at.invariant) there),
-    )
+    let i : ℕ = c.loop-at.at - 1 in
+    let inside : i < length lists = omega (arith, c.loop-at.invariant.few, c.loop-at-test.true) in
+    slice_get-get_or lists i [] inside
+    ∙ ap (λ (l : List ℕ). Some l)
+    (sym c.list.ensures ∙ (sym c.read.ensures
+    ∙ same_text c.read.new.words c.args.list.now (sym c.if-eq.true ∙ c.eq.ensures)))
+
+pub returns-clause-none : goal.returns-clause-none
+returns-clause-none c =
+    let lists : List (List ℕ) = c.args.lists.now.lists in
+    let none : c.loop-at.at ≡ 0 = omega (arith, c.loop-at-test.false) in
+    walk_done lists c.args.heads.now c.args.next.now c.args.list.now c.requires.chained
+    (subst (IsWalk lists (length c.args.heads.now) c.args.list.now) none c.loop-at.invariant)
