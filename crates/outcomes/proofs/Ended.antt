@@ -103,7 +103,7 @@ over_past p r c past =
           ∙ empty (drained_of r c) (place_of r c)),
     )
   where
-    empty : (d k : ℕ) → between [] d k ≡ []
+    empty : (d k : ℕ) → between {A = Op} [] d k ≡ []
     empty zero zero = refl
     empty (suc d) zero = refl
     empty zero (suc k) = refl

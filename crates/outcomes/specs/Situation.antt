@@ -1,9 +1,8 @@
 -- A machine with store buffers over one memory, without caches and without events: how far each core is, and values.
-use Rattle.std.specs.Prelude.{◌≡◌, ◌+◌, ◌%◌, ◌^◌, ◌==◌, ℕ, suc, Bool, true, false, not, if◌then◌else◌, Option, Some}
+use Rattle.std.specs.Prelude.{◌≡◌, ◌+◌, ◌%◌, ◌^◌, ◌==◌, ℕ, suc, Bool, true, false, if◌then◌else◌, Option, Some}
 use Rattle.std.specs.Prelude.{None}
-use Rattle.std.specs.Prelude.{List, [], ◌∷◌, map, length, take, drop, replicate, slice_index, slice_index_or}
+use Rattle.std.specs.Prelude.{List, [], ◌∷◌, map, length, drop, replicate, slice_index, slice_index_or}
 use Rattle.std.specs.Prelude.{is_some, slice_get, slice_set}
-use Rattle.std.specs.List.{list_any}
 use Rattle.program.specs.declared.op.Op.{Op}
 use Rattle.program.specs.declared.op.Op.TheVariants.{St, Ld, Swap, Add, Cas}
 use Rattle.program.specs.Parts.{Parts, op_count}

@@ -17,6 +17,7 @@ use common::{CoreId, OutOfMemory};
 use machine::{Fault, Machine, event_of};
 use program::{Op, Program};
 use replay::Replay;
+use situations::{between, oldest};
 use std::alloc::Global;
 
 /// The operation that a move performs; none where it can't be made.

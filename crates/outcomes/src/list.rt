@@ -16,6 +16,7 @@ use crate::seen::search;
 use common::{CoreId, OutOfMemory};
 use indexmap::IndexSet;
 use program::Program;
+use situations::{between, oldest};
 use std::alloc::Global;
 
 /// Whether a core has come to its end.

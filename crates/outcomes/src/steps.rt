@@ -12,6 +12,7 @@ use crate::reads::first_event;
 use crate::row::Row;
 use common::{Addr, CoreId, OutOfMemory};
 use program::{Op, Program};
+use situations::{between, forwarded, none_waits, oldest};
 use std::alloc::Global;
 
 /// The value that a read-modify-write leaves where it reads this one.

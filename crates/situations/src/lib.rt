@@ -1,4 +1,5 @@
-//! Situations that a search has seen: lists of equally many numbers, each once; and which stores of a core wait in them.
+//! Situations of a machine with store buffers, for searches: those that were seen, as lists of equally many numbers, each
+//! once; and which stores wait.
 #![tactic(auto)]
 
 mod block;
