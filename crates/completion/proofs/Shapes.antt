@@ -1,6 +1,6 @@
 -- Situations that moves lead to: how many numbers they have, and that none is large.
 use Rattle.std.proofs.Common.{◌≡◌, ◌<◌, ◌≤◌, ◌+◌, ◌-◌, ◌^◌, ◌∙◌, inl, inr, ℕ, Bool, true, false, cond, None, Some, List}
-use Rattle.std.proofs.Common.{arith, get_or, length, length-set, get_or-set_same, get_or-set_other, min, refl, subst, sym}
+use Rattle.std.proofs.Common.{arith, get_or, length, length-set, get_or-set_same, get_or-set_other, refl, slice_set, subst, sym}
 use Rattle.std.specs.List.{All, list_any}
 use Rattle.std.proofs.lemmas.Bool.{cases_eq, cases_lt}
 use Rattle.std.proofs.lemmas.List.{get_or-replicate, get_or_default, length-replicate}

@@ -335,21 +335,21 @@ popped old before after t n is size left =
 
 module _ (v : Values) (seen : Seen) (n a : ℕ) (cores : n ≡ length v.cores) (addresses : a ≡ length v.initial)
     (is : seen.rows ≡ record { cores = n; addresses = a; keys = [] }) (dead : seen.dead.items ≡ []) where
-  rows : seen.rows.keys ≡ []
-  rows = ap (λ (z : SeenRows). z.keys) is
+  no_keys : seen.rows.keys ≡ []
+  no_keys = ap (λ (z : SeenRows). z.keys) is
 
   pub none_searched : AreSearched v seen
   none_searched = record {
     cores = ap (λ (z : SeenRows). z.cores) is ∙ cores;
     addresses = ap (λ (z : SeenRows). z.addresses) is ∙ addresses;
-    size = ap (λ (l : List Bool). length l) dead ∙ sym (ap (λ (l : List Situation). length l) rows);
-    reached = subst (All (Leads v (beginning v))) (sym rows) (All-nil (Leads v (beginning v)));
-    different = subst (IsDistinct same_situation) (sym rows)
+    size = ap (λ (l : List Bool). length l) dead ∙ sym (ap (λ (l : List Situation). length l) no_keys);
+    reached = subst (All (Leads v (beginning v))) (sym no_keys) (All-nil (Leads v (beginning v)));
+    different = subst (IsDistinct same_situation) (sym no_keys)
         (IsDistinct-from_apart same_situation [] (λ i j d low inside. absurd (omega (arith, inside))));
-    no_end = subst (All (λ (z : Situation). ¬ IsEnd v z)) (sym rows) (All-nil (λ (z : Situation). ¬ IsEnd v z));
+    no_end = subst (All (λ (z : Situation). ¬ IsEnd v z)) (sym no_keys) (All-nil (λ (z : Situation). ¬ IsEnd v z));
     vain = λ r d move c. absurd (let clash : false ≡ true =
         sym (ap (λ (l : List Bool). get_or l d.0 false) dead) ∙ d.2 in cc);
   }
 
   pub none_known : (r : Situation) → list_any (same_situation r) seen.rows.keys ≡ false
-  none_known r = ap (list_any (same_situation r)) rows
+  none_known r = ap (list_any (same_situation r)) no_keys
