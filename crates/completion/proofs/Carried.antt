@@ -453,17 +453,17 @@ module _ (v : Values) (order : List ℕ) (sources : List (Option ℕ)) (at drain
         → is_free v memory c (drained c) j (between (own c) (drained c) j) (L a r o) ≡ true
         → IsTrail v (order ++ number c j ∷ []) (slice_set sources (number c j)
         (source_found v c (youngest stored_by_event a None (drained c) (between (own c) (drained c) j))
-            (last_of (writers v a order))))
+        (last_of (writers v a order))))
         next drained memory
     past_load a r o is free =
         past_silent (source_found v c (youngest stored_by_event a None (drained c) (between (own c) (drained c) j))
-            (last_of (writers v a order))) (ap is_plain_store is) (ap written_address is)
+        (last_of (writers v a order))) (ap is_plain_store is) (ap written_address is)
         (kept_first c j inside (omega (arith, here)) (λ i from to store. ap is_plain_load is))
         (λ b reads.
         let one : a ≡ b = reads_same (L a r o) is a b refl reads in
         subst (λ (k : ℕ). IsSourceAfter v order (number c j) k
         (source_found v c (youngest stored_by_event a None (drained c) (between (own c) (drained c) j))
-            (last_of (writers v a order))))
+        (last_of (writers v a order))))
         one (source (subst (λ (k : ℕ). Reads (events_alone v) (number c j) k) (sym one) reads)))
       where
         n : ℕ
@@ -484,7 +484,7 @@ module _ (v : Values) (order : List ℕ) (sources : List (Option ℕ)) (at drain
 
         source : Reads (events_alone v) (number c j) a → IsSourceAfter v order (number c j) a
             (source_found v c (youngest stored_by_event a None (drained c) (between (own c) (drained c) j))
-                (last_of (writers v a order)))
+            (last_of (writers v a order)))
         source reads = elim (forwarded_cases (own c) (drained c) n j a (slice_index memory.values a) apart
             (omega (arith, inside))) [
               | inl y ↦
