@@ -24,7 +24,8 @@ use Rattle.situations.specs.Waiting.{between, forwarded, none_waits, youngest}
 use Rattle.completion.specs.Situation.{marked, may_read, number_of, source_at}
 use Rattle.completion.proofs.Appended.{appended, in_more, last_in, still_in}
 use Rattle.completion.proofs.Covers.{write_cases}
-use Rattle.completion.proofs.Lists.{IsYoungest, HasNone, between_at, forwarded_cases, length_between, youngest_is, youngest_none}
+use Rattle.situations.proofs.Ranges.{between_at, length_between}
+use Rattle.completion.proofs.Lists.{IsYoungest, HasNone, forwarded_cases, youngest_is, youngest_none}
 use Rattle.completion.proofs.Numbered.{earlier, event_here, inside_here, one_place, order_here}
 use Rattle.completion.proofs.OrderLists.{last_push, last_some, there_writer, writers_more, writers_once, writers_same}
 
@@ -42,7 +43,7 @@ none_stands es d k i none from to within = go (is_plain_store (get_or es i F)) r
     go true is =
         let at : d + (i - d) ≡ i = omega (arith, from) in
         let there : is_some (stored_by_event (get_or (between es d k) (i - d) F)) ≡ true =
-        ap (λ (ev : Event). is_some (stored_by_event ev)) (between_at es d k (i - d) (omega (arith, from, to)))
+        ap (λ (ev : Event). is_some (stored_by_event ev)) (between_at es d k (i - d) F (omega (arith, from, to)))
         ∙ (ap (λ (n : ℕ). is_some (stored_by_event (get_or es n F))) at ∙ stores (get_or es i F) is) in
         let some : list_any (λ ev. is_some (stored_by_event ev)) (between es d k) ≡ true =
         list_any_at (λ ev. is_some (stored_by_event ev)) (between es d k) (i - d) F

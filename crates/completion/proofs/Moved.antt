@@ -13,7 +13,7 @@ use Rattle.situations.specs.declared.waiting.Waiting.{Waiting}
 use Rattle.completion.specs.Situation.{drained_by, drained_of, events_of, moved, with_drained}
 use Rattle.situations.specs.Step.{stored_by_event}
 use Rattle.situations.specs.Waiting.{none_waits, oldest}
-use Rattle.completion.proofs.Lists.{between_at}
+use Rattle.situations.proofs.Ranges.{between_at}
 use Rattle.values.specs.Values.{Values}
 use Rattle.completion.specs.Situation.{Situation, place_of, waiting, may_read, source_at, with_place, written}
 use Rattle.completion.specs.Situation.{modified_next}
@@ -118,11 +118,11 @@ next_store v s c x found =
       from = omega (arith, old.place);
       to = omega (arith, to, old.place);
       inside = omega (arith, old.inside, known, old.place);
-      event = ap (λ (n : ℕ). get_or es n F) (sym here) ∙ (sym (between_at es d k old.at to) ∙ old.event);
+      event = ap (λ (n : ℕ). get_or es n F) (sym here) ∙ (sym (between_at es d k old.at F to) ∙ old.event);
       first = λ j low less.
           let apart : d + (j - d) ≡ j = omega (arith, low) in
           ap (λ (n : ℕ). is_plain_store (get_or es n F)) (sym apart)
-          ∙ (ap is_plain_store (sym (between_at es d k (j - d) (omega (arith, low, less, to, old.place))))
+          ∙ (ap is_plain_store (sym (between_at es d k (j - d) F (omega (arith, low, less, to, old.place))))
           ∙ old.first (j - d) (omega (arith, low, less, old.place)));
     }
 

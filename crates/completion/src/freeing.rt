@@ -7,12 +7,11 @@ ghost use Rattle.completion.specs.Situation.{past_free, place_of, source_at};
 ghost use Rattle.situations.specs.Step.{stored_by_event};
 ghost use Rattle.situations.specs.Waiting.{between, youngest};
 
-use crate::events::value_at;
 use crate::marks::{mark_at, mark_read, may_read, source_at};
 use crate::row::Row;
 use common::Addr;
 use recording::Event;
-use situations::{between, forwarded, none_waits, youngest};
+use situations::{between, forwarded, none_waits, value_at, youngest};
 use values::Values;
 
 /// Whether a load may take its value from where it finds it, as far as its source is known.

@@ -14,6 +14,7 @@ use Rattle.program.specs.declared.op.Op.{Op}
 use Rattle.program.specs.Parts.{Parts, IsProgram}
 use Rattle.outcomes.specs.Outcome.{Outcome, IsAllowed, AreOutcomes}
 use Rattle.outcomes.specs.Situation.{Situation, moved, beginning, ops_of, place_of, drained_of}
+use Rattle.situations.proofs.Ranges.{between_nothing}
 use Rattle.situations.specs.Step.{stored_by_op}
 use Rattle.situations.specs.Waiting.{between, oldest}
 use Rattle.outcomes.specs.Situation.{IsOver, IsEnd}
@@ -100,14 +101,8 @@ over_past p r c past =
       ap (λ (l : List Op). slice_get l (place_of r c)) none,
       ap (λ (l : List Op). oldest stored_by_op (drained_of r c) l)
           (ap (λ (l : List Op). between l (drained_of r c) (place_of r c)) none
-          ∙ empty (drained_of r c) (place_of r c)),
+          ∙ between_nothing (drained_of r c) (place_of r c)),
     )
-  where
-    empty : (d k : ℕ) → between {A = Op} [] d k ≡ []
-    empty zero zero = refl
-    empty (suc d) zero = refl
-    empty zero (suc k) = refl
-    empty (suc d) (suc k) = refl
 
 -- where all cores that are there have
 pub all_over : (p : List (List Op)) (r : Situation) → ((c : ℕ) → c < length p → IsOver p r c) → IsEnd p r

@@ -50,7 +50,8 @@ use Rattle.outcomes.specs.Situation as row
 use Rattle.outcomes.specs.Witness.{op_moved}
 use Rattle.situations.specs.declared.waiting.Waiting.{Waiting}
 use Rattle.outcomes.specs.Follow.{entries, Follows}
-use Rattle.outcomes.proofs.Stores.{found_oldest, entries_few, length_between, no_entries, none_found, a_store}
+use Rattle.situations.proofs.Ranges.{length_between}
+use Rattle.outcomes.proofs.Stores.{found_oldest, entries_few, no_entries, none_found, a_store}
 use Rattle.outcomes.proofs.Stores.{store_stands}
 use Rattle.outcomes.proofs.Follow.{follow_store}
 use Rattle.outcomes.proofs.Grown.{moved_past}

@@ -4,12 +4,14 @@
 
 mod block;
 mod codes;
+mod memory;
 mod packed;
 mod packed_list;
 mod set;
 mod step;
 mod waiting;
 
+pub use memory::value_at;
 pub use packed_list::PackedList;
 pub use set::ListSet;
 pub use step::Step;
