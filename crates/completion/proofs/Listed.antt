@@ -1,5 +1,5 @@
 -- Situations as lists of numbers.
-use Rattle.std.proofs.Common.{◌≡◌, ◌<◌, ◌+◌, ◌∙◌, ℕ, Bool, true, false, List, [], ◌∷◌, ◌++◌, arith, refl, sym, ap}
+use Rattle.std.proofs.Common.{◌≡◌, ◌<◌, ◌+◌, ◌∙◌, ℕ, Bool, true, false, List, [], ◌++◌, arith, refl, sym, ap}
 use Rattle.std.proofs.Common.{Some, take, drop, length, map, length-append, get_or, slice_get}
 use Rattle.std.proofs.lemmas.List.{drop-append-le, drop-drop, drop_all, get_or-map, length-map, take-append-drop}
 use Rattle.std.proofs.lemmas.List.{take-append-le, take_all}

@@ -1,5 +1,5 @@
 -- Situations that moves lead to: how many numbers they have, and that none is large.
-use Rattle.std.proofs.Common.{◌≡◌, ◌<◌, ◌≤◌, ◌+◌, ◌-◌, ◌^◌, ◌∙◌, inl, inr, ℕ, Bool, true, false, cond, None, Some, List}
+use Rattle.std.proofs.Common.{◌≡◌, ◌<◌, ◌≤◌, ◌-◌, ◌^◌, ◌∙◌, inl, inr, ℕ, Bool, true, false, cond, None, Some}
 use Rattle.std.proofs.Common.{arith, get_or, length, length-set, get_or-set_same, get_or-set_other, refl, slice_set, subst, sym}
 use Rattle.std.specs.List.{All, list_any}
 use Rattle.std.proofs.lemmas.Bool.{cases_eq, cases_lt}
@@ -14,8 +14,8 @@ use Rattle.completion.specs.Performed.{HaveRoom}
 use Rattle.completion.specs.Reachable.{Leads, here, further}
 use Rattle.completion.specs.Row.{FitsAmong, IsSmall}
 use Rattle.completion.specs.Seen.{AreSearched}
-use Rattle.completion.specs.Situation.{Situation, beginning, events_of, has_mark, mark, mark_of, marked, moved, number_of}
-use Rattle.completion.specs.Situation.{drained_of, place_of, with_value}
+use Rattle.completion.specs.Situation.{Situation, beginning, events_of, has_mark, mark, mark_of, marked, moved}
+use Rattle.completion.specs.Situation.{place_of, with_value}
 use Rattle.completion.proofs.Moved.{Drains, Modifies, moved_drain, moved_modify}
 use Rattle.completion.proofs.Numbered.{inside_here}
 use Rattle.completion.proofs.Places.{IsFit}

@@ -1,4 +1,4 @@
-use Rattle.std.proofs.Common.{◌≡◌, ◌≤◌, ℕ, subst, sym}
+use Rattle.std.proofs.Common.{◌≤◌, ℕ, subst, sym}
 use Rattle.completion.specs.Seen.{HasNumber}
 use Rattle.completion.proofs.Shapes.{led_fits, led_small}
 use Rattle.completion.proofs.Vain.{one_too_many, added_grows, added_searched, added_number}
