@@ -3,12 +3,12 @@ use Rattle.std.proofs.Common.{◌≡◌, ◌<◌, ◌+◌, ◌∙◌, ℕ, Bool,
 use Rattle.std.proofs.Common.{Some, take, drop, length, map, length-append, get_or, slice_get}
 use Rattle.std.proofs.lemmas.List.{drop-append-le, drop-drop, drop_all, get_or-map, length-map, take-append-drop}
 use Rattle.std.proofs.lemmas.List.{take-append-le, take_all}
-use Rattle.std.proofs.lemmas.Map.Views.{Contains-from_any}
+use Rattle.std.proofs.lemmas.Map.Views.{Contains-from_any, list_any-from_Contains}
 use Rattle.std.proofs.lemmas.Option.{get_or_from_slice_get, slice_get-get_or, slice_get_within}
 use Rattle.std.specs.List.{Contains, list_any}
 use Rattle.completion.specs.Row.{FitsAmong, SeenRows, numbers_of, row_of, same_situation}
 use Rattle.completion.specs.Situation.{Situation}
-use Rattle.completion.proofs.SameRows.{same}
+use Rattle.completion.proofs.SameRows.{same, same_equiv}
 
 -- what comes first in a list, and what after it
 first_is : (xs ys : List ℕ) (n : ℕ) → length xs ≡ n → take n (xs ++ ys) ≡ xs
@@ -95,3 +95,15 @@ known_row c a lists i r made at =
     slice_get-get_or (map (row_of c a) lists) i r (omega (arith, inside, length-map lists (row_of c a)))
     ∙ ap (λ (z : Situation). Some z) (get_or-map (row_of c a) lists i [] r inside
     ∙ (ap (row_of c a) (get_or_from_slice_get lists i (numbers_of r) [] at) ∙ made))
+
+-- where a situation is not there, its list is not
+pub none_listed : (c a : ℕ) (lists : List (List ℕ)) (r : Situation) → row_of c a (numbers_of r) ≡ r
+    → list_any (same_situation r) (map (row_of c a) lists) ≡ false → Contains lists (numbers_of r) → ⊥
+none_listed c a lists r made none there =
+    let at : Contains (map (row_of c a) lists) r = (
+      there.0,
+      omega (arith, there.1, length-map lists (row_of c a)),
+      get_or-map (row_of c a) lists there.0 (numbers_of r) r there.1 ∙ (ap (row_of c a) there.2 ∙ made),
+    ) in
+    let clash : true ≡ false = sym (list_any-from_Contains same_equiv r (map (row_of c a) lists) at) ∙ none in
+    absurd cc

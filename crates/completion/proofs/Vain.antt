@@ -1,10 +1,8 @@
 -- What a search has seen, as it goes on.
 use Rattle.std.proofs.Common.{◌≡◌, ◌<◌, ◌≤◌, ◌+◌, ◌⊎◌, ◌∙◌, inl, inr, ℕ, Bool, true, false, Option, Some, None, List}
 use Rattle.std.proofs.Common.{[], ◌∷◌, ◌++◌, length, get_or, slice_get, slice_set, arith, refl, sym, ap, subst}
-use Rattle.std.proofs.Common.{option_and_then, rules, take, ◌-◌, length-append, length-set, get_or-set_same, get_or-set_other}
+use Rattle.std.proofs.Common.{option_and_then, take, ◌-◌, length-append, length-set, get_or-set_same, get_or-set_other}
 use Rattle.std.specs.List.{All, Contains, IsDistinct, list_any}
-use Rattle.std.specs.Cmp.{IsEquivalence}
-use Rattle.std.specs.Cmp.Rules.{comparing}
 use Rattle.std.proofs.lemmas.Bool.{cases_lt, cases_eq}
 use Rattle.std.proofs.lemmas.List.{get_or_append_left, get_or_push, get_or_past, take-append-le, take_all}
 use Rattle.std.proofs.lemmas.List.Elements.{All-nil, All-push, All-contains, Contains-get_or}
@@ -24,7 +22,7 @@ use Rattle.completion.specs.Search.{IsHopeless}
 use Rattle.completion.specs.Reachable.{Leads, here, further, after_moves, HasMore}
 use Rattle.completion.specs.Seen.{HasNumber, IsDead, IsTaken, IsVain, AreSearched, Grows, turn_of}
 use Rattle.completion.proofs.Rank.{rank, most_rank, further_on}
-use Rattle.completion.proofs.SameRows.{moved_past}
+use Rattle.completion.proofs.SameRows.{moved_past, same_equiv}
 
 -- Moves that are listed
 
@@ -132,9 +130,6 @@ after_more v r s (u ∷ ts) t is = go (moved v r u.step u.core) is (λ y. after_
     go (Some y) some rest = rest y some
 
 -- A situation that was not seen
-
-same_equiv : IsEquivalence same_situation
-same_equiv = search (comparing, rules)
 
 module _ (v : Values) (seen : Seen) (r : Situation) (old : AreSearched v seen) (led : Leads v (beginning v) r)
     (fresh : list_any (same_situation r) seen.rows.keys ≡ false) where

@@ -6,7 +6,7 @@ use situations::ListSet;
 use std::alloc::Global;
 use std::marker::Model;
 
-/// Rows of as many cores and addresses each, in the order in which they came.
+/// Rows of as many cores and addresses each, in the order in which they came, each once.
 #[derive(Drop)]
 pub struct Rows {
     /// How many cores each has.
@@ -84,6 +84,7 @@ impl Rows {
     pub(crate) fn push(&mut self, alloc: Global, row: &Row) -> Result<(), OutOfMemory>
         requires fits { FitsAmong self.old row.now }
         requires small { IsSmall row.now }
+        requires new { list_any (same_situation row.now) self.old.keys ≡ false }
         ensures { OnOk result (self.new ≡ record self.old { keys = self.old.keys ++ row.now ∷ [] }) }
     {
         let list = row.list(alloc)?;

@@ -73,7 +73,9 @@ impl Seen {
     pub(crate) fn add(&mut self, alloc: Global, row: &Row) -> Result<usize, OutOfMemory>
         requires fits { FitsAmong self.old.rows row.now }
         requires small { IsSmall row.now }
-        ensures rows { OnOk result (self.new.rows ≡ record self.old.rows { keys = self.old.rows.keys ++ row.now ∷ [] }) }
+        requires new { list_any (same_situation row.now) self.old.rows.keys ≡ false }
+        ensures rows { OnOk result (self.new.rows
+            ≡ record self.old.rows { keys = self.old.rows.keys ++ row.now ∷ [] }) }
         ensures dead { OnOk result (self.new.dead.items ≡ self.old.dead.items ++ false ∷ []) }
         ensures number { IfOk result (λ i. i ≡ length self.old.rows.keys) }
     {

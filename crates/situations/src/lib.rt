@@ -1,5 +1,4 @@
-//! Situations of a machine with store buffers, for searches: those that were seen, as lists of equally many numbers, each
-//! once; and which stores wait.
+//! Situations of a machine with store buffers: those that a search has seen, and which stores wait.
 #![tactic(auto)]
 
 mod block;

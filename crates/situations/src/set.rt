@@ -210,7 +210,8 @@ impl ListSet {
 
     /// Adds a list that is not among them. Fails only if out of memory, or with 2^32 - 1 lists.
     pub fn push(&mut self, alloc: Global, list: &[u32]) -> Result<(), OutOfMemory>
-        requires { length list.now ≡ self.old.width }
+        requires width { length list.now ≡ self.old.width }
+        requires new { ¬ Contains self.old.lists list.now }
         ensures err { OnErr result (self.new ≡ self.old) }
         ensures ok { OnOk result (self.new ≡ record {
           width = self.old.width;

@@ -1,7 +1,8 @@
 //! Stores that wait in a store buffer, and what is forwarded from them.
 
 ghost use Rattle.std.specs.Prelude.{◌≡◌, ◌+◌, ◌^◌, ◌<◌, IfSome, None, OnSome, length};
-ghost use Rattle.situations.specs.Waiting.{between, forwarded, newer, none_waits, oldest, waiting_at, younger, youngest};
+ghost use Rattle.situations.specs.Waiting.{between, forwarded, newer, none_waits, oldest, waiting_at, younger};
+ghost use Rattle.situations.specs.Waiting.{youngest};
 
 use crate::step::Step;
 use common::Addr;

@@ -35,6 +35,12 @@ add-requires-clause-fits c =
     (ap (λ (l : List ℕ). length l) c.init.ensures) c.in_ok-seen.ensures.rows c.in_ok-seen.ensures.dead)
     (subst (Leads v (beginning v)) (sym c.in_ok-first.ensures) here)
 
+pub add-requires-clause-new : goal.add-requires-clause-new
+add-requires-clause-new c =
+    none_known c.args.values.now c.in_ok-seen.seen _ _ c.core_count.ensures
+    (ap (λ (l : List ℕ). length l) c.init.ensures) c.in_ok-seen.ensures.rows c.in_ok-seen.ensures.dead
+    c.in_ok-first.first
+
 pub add-requires-clause-small : goal.add-requires-clause-small
 add-requires-clause-small c =
     let v = c.args.values.now in
