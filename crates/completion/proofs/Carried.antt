@@ -1,6 +1,6 @@
 -- What cores and memory do next is right.
 use Rattle.std.proofs.Common.{◌≡◌, ◌≢◌, ◌<◌, ◌≤◌, ◌+◌, ◌-◌, ◌^◌, ◌==◌, ◌&&◌, ◌⊎◌, ◌↔◌, ◌∙◌, inl, inr, ℕ, Bool, true, false, cond, not}
-use Rattle.std.proofs.Common.{Option, Some, None, List, [], ◌∷◌, ◌++◌, length, get_or, slice_index, slice_set, arith, refl, sym}
+use Rattle.std.proofs.Common.{Option, Some, None, List, [], ◌∷◌, ◌++◌, length, get_or, is_some, slice_index, slice_set, arith, refl, sym}
 use Rattle.std.proofs.Common.{ap, subst, length-set, get_or-set_same, get_or-set_other}
 use Rattle.std.specs.List.{list_any}
 use Rattle.std.proofs.lemmas.Bool.{and_parts, cases_eq, cases_lt, eqb-true}
@@ -18,28 +18,35 @@ use Rattle.values.specs.Values.{Values, known_source}
 use Rattle.completion.specs.Performed.{IsSourceAfter, IsTrail, last_of, order_after, source_found}
 use Rattle.completion.specs.Performed.{sources_after, writers}
 use Rattle.completion.specs.Search.{event_of}
-use Rattle.completion.specs.Situation.{Memory, between, events_of, forwarded, has_mark, is_free, is_free_at, mark, mark_of, mark_read}
-use Rattle.completion.specs.Situation.{marked, may_read, none_waits, number_of, source_at, youngest}
+use Rattle.completion.specs.Situation.{Memory, events_of, has_mark, is_free, is_free_at, mark, mark_of, mark_read}
+use Rattle.situations.specs.Step.{stored_by_event}
+use Rattle.situations.specs.Waiting.{between, forwarded, none_waits, youngest}
+use Rattle.completion.specs.Situation.{marked, may_read, number_of, source_at}
 use Rattle.completion.proofs.Appended.{appended, in_more, last_in, still_in}
 use Rattle.completion.proofs.Covers.{write_cases}
-use Rattle.completion.proofs.Lists.{IsYoungest, HasNone, between_at, forwarded_cases, length_between, youngest_is, youngest_none}
+use Rattle.situations.proofs.Ranges.{between_at, length_between}
+use Rattle.completion.proofs.Lists.{IsYoungest, HasNone, forwarded_cases, youngest_is, youngest_none}
 use Rattle.completion.proofs.Numbered.{earlier, event_here, inside_here, one_place, order_here}
 use Rattle.completion.proofs.OrderLists.{last_push, last_some, there_writer, writers_more, writers_once, writers_same}
 
 -- where no store waits, none stands
-none_stands : (es : List Event) (d k i : ℕ) → none_waits (between es d k) ≡ true → d ≤ i → i < k → k ≤ length es
-    → is_plain_store (get_or es i F) ≡ false
+none_stands : (es : List Event) (d k i : ℕ) → none_waits stored_by_event (between es d k) ≡ true → d ≤ i → i < k
+    → k ≤ length es → is_plain_store (get_or es i F) ≡ false
 none_stands es d k i none from to within = go (is_plain_store (get_or es i F)) refl
   where
+    stores : (ev : Event) → is_plain_store ev ≡ true → is_some (stored_by_event ev) ≡ true
+    stores (S a w) h = refl
+    stores ev h = absurd cc
+
     go : (b : Bool) → is_plain_store (get_or es i F) ≡ b → is_plain_store (get_or es i F) ≡ false
     go false is = is
     go true is =
         let at : d + (i - d) ≡ i = omega (arith, from) in
-        let there : is_plain_store (get_or (between es d k) (i - d) F) ≡ true =
-        ap is_plain_store (between_at es d k (i - d) (omega (arith, from, to)))
-        ∙ (ap (λ (n : ℕ). is_plain_store (get_or es n F)) at ∙ is) in
-        let some : list_any is_plain_store (between es d k) ≡ true =
-        list_any_at is_plain_store (between es d k) (i - d) F
+        let there : is_some (stored_by_event (get_or (between es d k) (i - d) F)) ≡ true =
+        ap (λ (ev : Event). is_some (stored_by_event ev)) (between_at es d k (i - d) F (omega (arith, from, to)))
+        ∙ (ap (λ (n : ℕ). is_some (stored_by_event (get_or es n F))) at ∙ stores (get_or es i F) is) in
+        let some : list_any (λ ev. is_some (stored_by_event ev)) (between es d k) ≡ true =
+        list_any_at (λ ev. is_some (stored_by_event ev)) (between es d k) (i - d) F
         (omega (arith, length_between es d k within, from, to)) there in
         let clash : false ≡ true = sym (ap not some) ∙ none in absurd cc
 
@@ -394,7 +401,7 @@ module _ (v : Values) (order : List ℕ) (sources : List (Option ℕ)) (at drain
 
     -- over a read-modify-write
     pub past_modify : (a r w : ℕ) (o : Option ℕ) → event_of v.cores c j ≡ R a r o w
-        → none_waits (between (own c) (drained c) j) ≡ true → slice_index memory.values a ≡ r
+        → none_waits stored_by_event (between (own c) (drained c) j) ≡ true → slice_index memory.values a ≡ r
         → may_read (source_at v c j) (slice_index memory.marks a) ≡ true
         → IsTrail v (order ++ number c j ∷ []) (slice_set sources (number c j) (last_of (writers v a order))) next drained
         (record { values = slice_set memory.values a w; marks = slice_set memory.marks a (marked v (mark_of v c j)) })
@@ -446,16 +453,18 @@ module _ (v : Values) (order : List ℕ) (sources : List (Option ℕ)) (at drain
     past_load : (a r : ℕ) (o : Option ℕ) → event_of v.cores c j ≡ L a r o
         → is_free v memory c (drained c) j (between (own c) (drained c) j) (L a r o) ≡ true
         → IsTrail v (order ++ number c j ∷ []) (slice_set sources (number c j)
-        (source_found v c (youngest a None (drained c) (between (own c) (drained c) j)) (last_of (writers v a order))))
+        (source_found v c (youngest stored_by_event a None (drained c) (between (own c) (drained c) j))
+        (last_of (writers v a order))))
         next drained memory
     past_load a r o is free =
-        past_silent (source_found v c (youngest a None (drained c) (between (own c) (drained c) j))
+        past_silent (source_found v c (youngest stored_by_event a None (drained c) (between (own c) (drained c) j))
         (last_of (writers v a order))) (ap is_plain_store is) (ap written_address is)
         (kept_first c j inside (omega (arith, here)) (λ i from to store. ap is_plain_load is))
         (λ b reads.
         let one : a ≡ b = reads_same (L a r o) is a b refl reads in
         subst (λ (k : ℕ). IsSourceAfter v order (number c j) k
-        (source_found v c (youngest a None (drained c) (between (own c) (drained c) j)) (last_of (writers v a order))))
+        (source_found v c (youngest stored_by_event a None (drained c) (between (own c) (drained c) j))
+        (last_of (writers v a order))))
         one (source (subst (λ (k : ℕ). Reads (events_alone v) (number c j) k) (sym one) reads)))
       where
         n : ℕ
@@ -464,34 +473,35 @@ module _ (v : Values) (order : List ℕ) (sources : List (Option ℕ)) (at drain
         apart : j ≡ drained c + n
         apart = omega (arith, h.come.low c, here)
 
-        parts : (forwarded a (slice_index memory.values a) (between (own c) (drained c) j) ≡ r)
+        parts : (forwarded stored_by_event a (slice_index memory.values a) (between (own c) (drained c) j) ≡ r)
             × (may_read (source_at v c j) (mark_read v c (slice_index memory.marks a)
-            (youngest a None (drained c) (between (own c) (drained c) j))) ≡ true)
+            (youngest stored_by_event a None (drained c) (between (own c) (drained c) j))) ≡ true)
         parts =
-            let both = and_parts (forwarded a (slice_index memory.values a) (between (own c) (drained c) j) == r) _ free in
-            (eqb-true (forwarded a (slice_index memory.values a) (between (own c) (drained c) j)) r both.0, both.1)
+            let found : ℕ = forwarded stored_by_event a (slice_index memory.values a) (between (own c) (drained c) j) in
+            let both = and_parts (found == r) _ free in (eqb-true found r both.0, both.1)
 
         value : r ≡ value_read (event_at (events_alone v) (number c j))
         value = sym (ap value_read (event_here v c j inside ∙ is))
 
         source : Reads (events_alone v) (number c j) a → IsSourceAfter v order (number c j) a
-            (source_found v c (youngest a None (drained c) (between (own c) (drained c) j)) (last_of (writers v a order)))
+            (source_found v c (youngest stored_by_event a None (drained c) (between (own c) (drained c) j))
+            (last_of (writers v a order)))
         source reads = elim (forwarded_cases (own c) (drained c) n j a (slice_index memory.values a) apart
             (omega (arith, inside))) [
               | inl y ↦
-                  let young : youngest a None (drained c) (between (own c) (drained c) j) ≡ Some y.at =
+                  let young : youngest stored_by_event a None (drained c) (between (own c) (drained c) j) ≡ Some y.at =
                   youngest_is (own c) (drained c) n j a
-                  (forwarded a (slice_index memory.values a) (between (own c) (drained c) j)) apart
+                  (forwarded stored_by_event a (slice_index memory.values a) (between (own c) (drained c) j)) apart
                   (omega (arith, inside)) y in
                   subst (λ (z : Option ℕ). IsSourceAfter v order (number c j) a
                   (source_found v c z (last_of (writers v a order)))) (sym young)
                   (own_read c j inside (omega (arith, here)) a
-                  (forwarded a (slice_index memory.values a) (between (own c) (drained c) j)) y reads
+                  (forwarded stored_by_event a (slice_index memory.values a) (between (own c) (drained c) j)) y reads
                   (parts.0 ∙ value)
                   (ap (λ (z : Option ℕ). may_read (source_at v c j) (mark_read v c (slice_index memory.marks a) z))
                   (sym young) ∙ parts.1))
               | inr (none, same) ↦
-                  let young : youngest a None (drained c) (between (own c) (drained c) j) ≡ None =
+                  let young : youngest stored_by_event a None (drained c) (between (own c) (drained c) j) ≡ None =
                   youngest_none (own c) (drained c) n j a apart (omega (arith, inside)) none in
                   subst (λ (z : Option ℕ). IsSourceAfter v order (number c j) a
                   (source_found v c z (last_of (writers v a order)))) (sym young)
@@ -506,7 +516,7 @@ module _ (v : Values) (order : List ℕ) (sources : List (Option ℕ)) (at drain
         → IsTrail v (order ++ number c j ∷ []) (slice_set sources (number c j) (last_of (writers v a order))) next
         drained memory
     past_cas a r o is free =
-        let parts = and_parts (none_waits (between (own c) (drained c) j)) _ free in
+        let parts = and_parts (none_waits stored_by_event (between (own c) (drained c) j)) _ free in
         let both = and_parts (slice_index memory.values a == r) _ parts.1 in
         past_silent (last_of (writers v a order)) (ap is_plain_store is) (ap written_address is)
         (kept_first c j inside (omega (arith, here)) (λ i from to store. absurd (

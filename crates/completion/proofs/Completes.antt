@@ -20,10 +20,12 @@ use Rattle.values.specs.Refused.{events_alone}
 use Rattle.values.specs.Values.{IsCompletion, Values, known_final, known_source, unsourced}
 use Rattle.completion.specs.Performed.{HaveRoom, IsLastInMemory, IsOwnStore, IsSourceAfter, IsTrail, last_of, until, writers}
 use Rattle.completion.specs.Search.{event_of}
-use Rattle.completion.specs.Situation.{Situation, drained_of, events_of, number_of, oldest, place_of, waiting, IsEnd}
+use Rattle.completion.specs.Situation.{Situation, drained_of, events_of, number_of, place_of, waiting, IsEnd}
+use Rattle.situations.specs.Step.{stored_by_event}
+use Rattle.situations.specs.Waiting.{oldest}
 use Rattle.completion.proofs.Alone.{count_with, order_with, reads_with, value_with, with_kept, with_order}
 use Rattle.completion.proofs.Alone.{with_reads, with_writes, writes_with, written_with}
-use Rattle.completion.proofs.Lists.{between_at, length_between}
+use Rattle.situations.proofs.Ranges.{between_at, length_between}
 use Rattle.completion.proofs.Numbered.{found}
 use Rattle.completion.proofs.OrderLists.{before_until, front_before, front_in, front_times, last_none, last_some, there_writer}
 use Rattle.completion.proofs.OrderLists.{until_before, writer_there, writers_before, writers_once}
@@ -31,7 +33,8 @@ use Rattle.completion.proofs.Reading.{second_kept}
 use Rattle.completion.proofs.Same.{no_source}
 
 -- where there is no oldest store, there is none
-no_oldest : (l : List Event) (i n : ℕ) → oldest i l ≡ None → n < length l → is_plain_store (get_or l n F) ≡ false
+no_oldest : (l : List Event) (i n : ℕ) → oldest stored_by_event i l ≡ None → n < length l
+    → is_plain_store (get_or l n F) ≡ false
 no_oldest [] i n none inside = absurd (omega (arith, inside))
 no_oldest (S a w ∷ l) i n none inside = absurd cc
 no_oldest (L a r o ∷ l) i zero none inside = refl
@@ -80,7 +83,7 @@ module _ (v : Values) (order : List ℕ) (sources : List (Option ℕ)) (r : Situ
                 no_oldest (waiting v.cores r c) d (j - d) (end.over c).1
                 (omega (arith, length_between (events_of v.cores c) d k (h.come.within c), there, most, high)) in
                 let same : is_plain_store (get_or (waiting v.cores r c) (j - d) F) ≡ true =
-                ap is_plain_store (between_at (events_of v.cores c) d k (j - d) (omega (arith, at, there, most)))
+                ap is_plain_store (between_at (events_of v.cores c) d k (j - d) F (omega (arith, at, there, most)))
                 ∙ (ap (λ (n : ℕ). is_plain_store (get_or (events_of v.cores c) n F)) at ∙ store) in
                 let clash : false ≡ true = sym none ∙ same in cc)
           ]

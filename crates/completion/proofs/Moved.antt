@@ -9,16 +9,18 @@ use Rattle.recording.specs.declared.event.Event.{Event}
 use Rattle.recording.specs.declared.event.Event.TheVariants.{L, S, R, C, F}
 use Rattle.recording.specs.Event.{is_plain_store}
 use Rattle.completion.specs.declared.moves.Move.TheVariants.{Modify, Drain}
-use Rattle.completion.specs.declared.moves.Waiting.{Waiting}
-use Rattle.completion.specs.Situation.{drained_by, drained_of, events_of, moved, oldest, with_drained}
-use Rattle.completion.proofs.Lists.{between_at}
+use Rattle.situations.specs.declared.waiting.Waiting.{Waiting}
+use Rattle.completion.specs.Situation.{drained_by, drained_of, events_of, moved, with_drained}
+use Rattle.situations.specs.Step.{stored_by_event}
+use Rattle.situations.specs.Waiting.{none_waits, oldest}
+use Rattle.situations.proofs.Ranges.{between_at}
 use Rattle.values.specs.Values.{Values}
-use Rattle.completion.specs.Situation.{Situation, place_of, waiting, none_waits, may_read, source_at, with_place, written}
+use Rattle.completion.specs.Situation.{Situation, place_of, waiting, may_read, source_at, with_place, written}
 use Rattle.completion.specs.Situation.{modified_next}
 
 -- whether core c may read the value r of address a from memory, at place k
 abbrev pub may_modify_at : Values → Situation → ℕ → ℕ → ℕ → ℕ → Bool
-may_modify_at v s c k a r = none_waits (waiting v.cores s c) && ((slice_index s.memory.values a == r)
+may_modify_at v s c k a r = none_waits stored_by_event (waiting v.cores s c) && ((slice_index s.memory.values a == r)
     && may_read (source_at v c k) (slice_index s.memory.marks a))
 
 -- a read-modify-write that may read leads on
@@ -38,7 +40,7 @@ pub record Modifies (v : Values) (s : Situation) (c : ℕ) (t : Situation) : Typ
   pub o : Option ℕ
   pub inside : place_of s c < length (events_of v.cores c)
   pub event : get_or (events_of v.cores c) (place_of s c) F ≡ R a r o w
-  pub none : none_waits (waiting v.cores s c) ≡ true
+  pub none : none_waits stored_by_event (waiting v.cores s c) ≡ true
   pub value : slice_index s.memory.values a ≡ r
   pub may : may_read (source_at v c (place_of s c)) (slice_index s.memory.marks a) ≡ true
   pub is : t ≡ written v (with_place s c (place_of s c + 1)) c (place_of s c) a w
@@ -65,7 +67,7 @@ record IsOldest (l : List Event) (i : ℕ) (x : Waiting) : Type 0 where
   event : get_or l at F ≡ S x.address x.value
   first : (j : ℕ) → j < at → is_plain_store (get_or l j F) ≡ false
 
-oldest_found : (l : List Event) (i : ℕ) (x : Waiting) → oldest i l ≡ Some x → IsOldest l i x
+oldest_found : (l : List Event) (i : ℕ) (x : Waiting) → oldest stored_by_event i l ≡ Some x → IsOldest l i x
 oldest_found [] i x is = let clash : None ≡ Some x = is in absurd cc
 oldest_found (e ∷ l) i x is = go e is (oldest_found l (suc i) x)
   where
@@ -82,7 +84,8 @@ oldest_found (e ∷ l) i x is = go e is (oldest_found l (suc i) x)
         go zero below = none
         go (suc j) below = rest.first j (omega (arith, below))
 
-    go : (e : Event) → oldest i (e ∷ l) ≡ Some x → (oldest (suc i) l ≡ Some x → IsOldest l (suc i) x)
+    go : (e : Event) → oldest stored_by_event i (e ∷ l) ≡ Some x
+        → (oldest stored_by_event (suc i) l ≡ Some x → IsOldest l (suc i) x)
         → IsOldest (e ∷ l) i x
     go (S a w) is rest =
         let same : record { place = i; address = a; value = w } ≡ x = same_Some _ x is in
@@ -100,7 +103,7 @@ oldest_found (e ∷ l) i x is = go e is (oldest_found l (suc i) x)
 
 -- so with those that wait
 pub next_store : (v : Values) (s : Situation) (c : ℕ) (x : Waiting)
-    → oldest (drained_of s c) (waiting v.cores s c) ≡ Some x → IsNextStore v s c x
+    → oldest stored_by_event (drained_of s c) (waiting v.cores s c) ≡ Some x → IsNextStore v s c x
 next_store v s c x found =
     let es : List Event = events_of v.cores c in
     let old : IsOldest (waiting v.cores s c) (drained_of s c) x =
@@ -115,11 +118,11 @@ next_store v s c x found =
       from = omega (arith, old.place);
       to = omega (arith, to, old.place);
       inside = omega (arith, old.inside, known, old.place);
-      event = ap (λ (n : ℕ). get_or es n F) (sym here) ∙ (sym (between_at es d k old.at to) ∙ old.event);
+      event = ap (λ (n : ℕ). get_or es n F) (sym here) ∙ (sym (between_at es d k old.at F to) ∙ old.event);
       first = λ j low less.
           let apart : d + (j - d) ≡ j = omega (arith, low) in
           ap (λ (n : ℕ). is_plain_store (get_or es n F)) (sym apart)
-          ∙ (ap is_plain_store (sym (between_at es d k (j - d) (omega (arith, low, less, to, old.place))))
+          ∙ (ap is_plain_store (sym (between_at es d k (j - d) F (omega (arith, low, less, to, old.place))))
           ∙ old.first (j - d) (omega (arith, low, less, old.place)));
     }
 
@@ -143,7 +146,7 @@ module _ (v : Values) (s : Situation) (c : ℕ) (t : Situation) where
               → Modifies v s c t
           test false h is = let clash : None ≡ Some t = is in absurd cc
           test true h is =
-              let parts = and_parts (none_waits (waiting v.cores s c)) _ h in
+              let parts = and_parts (none_waits stored_by_event (waiting v.cores s c)) _ h in
               let more = and_parts (slice_index s.memory.values a == r) _ parts.1 in
               record {
                 a = a;
@@ -167,9 +170,10 @@ module _ (v : Values) (s : Situation) (c : ℕ) (t : Situation) where
           let clash : None ≡ Some t = ap (modified_next v s c) (sym none) ∙ is in absurd cc
 
   pub moved_drain : moved v s Drain c ≡ Some t → Drains v s c t
-  moved_drain is = go (oldest (drained_of s c) (waiting v.cores s c)) refl is
+  moved_drain is = go (oldest stored_by_event (drained_of s c) (waiting v.cores s c)) refl is
     where
-      go : (o : Option Waiting) → oldest (drained_of s c) (waiting v.cores s c) ≡ o → drained_by v s c o ≡ Some t
+      go : (o : Option Waiting) → oldest stored_by_event (drained_of s c) (waiting v.cores s c) ≡ o
+          → drained_by v s c o ≡ Some t
           → Drains v s c t
       go None none is = let clash : None ≡ Some t = is in absurd cc
       go (Some x) found is = record { store = x; next = next_store v s c x found; is = sym (same_Some _ t is) }

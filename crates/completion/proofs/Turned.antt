@@ -4,7 +4,7 @@ use Rattle.std.proofs.Common.{refl, sym, subst, get_or-set_same, get_or-set_othe
 use Rattle.recording.specs.Execution.{event_count}
 use Rattle.values.specs.Refused.{events_alone}
 use Rattle.values.specs.Values.{Values}
-use Rattle.completion.specs.declared.moves.Waiting.{Waiting}
+use Rattle.situations.specs.declared.waiting.Waiting.{Waiting}
 use Rattle.completion.specs.Performed.{HaveRoom, IsTrail, Settles, last_of, writers}
 use Rattle.completion.specs.Situation.{Situation, drained_of, mark_of, marked, number_of, place_of, settled, with_drained}
 use Rattle.completion.specs.Situation.{with_place, with_value, written}

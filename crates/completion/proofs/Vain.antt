@@ -1,10 +1,8 @@
 -- What a search has seen, as it goes on.
 use Rattle.std.proofs.Common.{◌≡◌, ◌<◌, ◌≤◌, ◌+◌, ◌⊎◌, ◌∙◌, inl, inr, ℕ, Bool, true, false, Option, Some, None, List}
 use Rattle.std.proofs.Common.{[], ◌∷◌, ◌++◌, length, get_or, slice_get, slice_set, arith, refl, sym, ap, subst}
-use Rattle.std.proofs.Common.{option_and_then, rules, take, ◌-◌, length-append, length-set, get_or-set_same, get_or-set_other}
+use Rattle.std.proofs.Common.{option_and_then, take, ◌-◌, length-append, length-set, get_or-set_same, get_or-set_other}
 use Rattle.std.specs.List.{All, Contains, IsDistinct, list_any}
-use Rattle.std.specs.Cmp.{IsEquivalence}
-use Rattle.std.specs.Cmp.Rules.{comparing}
 use Rattle.std.proofs.lemmas.Bool.{cases_lt, cases_eq}
 use Rattle.std.proofs.lemmas.List.{get_or_append_left, get_or_push, get_or_past, take-append-le, take_all}
 use Rattle.std.proofs.lemmas.List.Elements.{All-nil, All-push, All-contains, Contains-get_or}
@@ -19,12 +17,12 @@ use Rattle.completion.specs.declared.moves.Turn.{Turn}
 use Rattle.completion.specs.declared.seen.Seen.{Seen}
 use Rattle.values.specs.Values.{Values}
 use Rattle.completion.specs.Situation.{Situation, moved, beginning, modified_next, IsEnd}
-use Rattle.completion.specs.Row.{same_situation}
+use Rattle.completion.specs.Row.{SeenRows, same_situation}
 use Rattle.completion.specs.Search.{IsHopeless}
 use Rattle.completion.specs.Reachable.{Leads, here, further, after_moves, HasMore}
 use Rattle.completion.specs.Seen.{HasNumber, IsDead, IsTaken, IsVain, AreSearched, Grows, turn_of}
 use Rattle.completion.proofs.Rank.{rank, most_rank, further_on}
-use Rattle.completion.proofs.SameRows.{moved_past}
+use Rattle.completion.proofs.SameRows.{moved_past, same_equiv}
 
 -- Moves that are listed
 
@@ -133,9 +131,6 @@ after_more v r s (u ∷ ts) t is = go (moved v r u.step u.core) is (λ y. after_
 
 -- A situation that was not seen
 
-same_equiv : IsEquivalence same_situation
-same_equiv = search (comparing, rules)
-
 module _ (v : Values) (seen : Seen) (r : Situation) (old : AreSearched v seen) (led : Leads v (beginning v) r)
     (fresh : list_any (same_situation r) seen.rows.keys ≡ false) where
   -- as many as the limit, and one more
@@ -147,8 +142,11 @@ module _ (v : Values) (seen : Seen) (r : Situation) (old : AreSearched v seen) (
     many = omega (arith, full, length-append seen.rows.keys (r ∷ []));
   }
 
-  module _ (new : Seen) (no_end : ¬ IsEnd v r) (rows : new.rows.keys ≡ seen.rows.keys ++ r ∷ [])
+  module _ (new : Seen) (no_end : ¬ IsEnd v r) (is : new.rows ≡ record seen.rows { keys = seen.rows.keys ++ r ∷ [] })
       (dead : new.dead.items ≡ seen.dead.items ++ false ∷ []) where
+    rows : new.rows.keys ≡ seen.rows.keys ++ r ∷ []
+    rows = ap (λ (z : SeenRows). z.keys) is
+
     -- what was seen keeps its number
     number_still : (s : Situation) (i : ℕ) → HasNumber seen s i → HasNumber new s i
     number_still s i at =
@@ -200,6 +198,8 @@ module _ (v : Values) (seen : Seen) (r : Situation) (old : AreSearched v seen) (
 
     pub added_searched : AreSearched v new
     added_searched = record {
+      cores = ap (λ (z : SeenRows). z.cores) is ∙ old.cores;
+      addresses = ap (λ (z : SeenRows). z.addresses) is ∙ old.addresses;
       size = ap (λ (l : List Bool). length l) dead
           ∙ omega (
             arith,
@@ -253,6 +253,8 @@ module _ (v : Values) (seen new : Seen) (n : ℕ) (old : AreSearched v seen) (ro
   pub buried_searched : ((r : Situation) → HasNumber seen r n → (move : Move) (c : ℕ) → IsVain v seen r move c)
       → AreSearched v new
   buried_searched vain = record {
+    cores = ap (λ (z : SeenRows). z.cores) rows ∙ old.cores;
+    addresses = ap (λ (z : SeenRows). z.addresses) rows ∙ old.addresses;
     size = ap (λ (l : List Bool). length l) dead ∙ (length-set seen.dead.items n true
         ∙ (old.size ∙ sym (ap (λ (l : List Situation). length l) keys_same)));
     reached = subst (All (Leads v (beginning v))) (sym keys_same) old.reached;
@@ -276,15 +278,10 @@ module _ (v : Values) (seen new : Seen) (n : ℕ) (old : AreSearched v seen) (ro
 
 -- The way to what a move leads to
 
-module _ (v : Values) (seen : Seen) (turns : List Turn) (n : ℕ) (t : Turn) (next : Situation)
-    (comes : after_moves v (beginning v) turns ≡ slice_get seen.rows.keys n) (there : n < length seen.rows.keys)
-    (leads : (r : Situation) → HasNumber seen r n → moved v r t.step t.core ≡ Some next) where
-  here_is : HasNumber seen (get_or seen.rows.keys n next) n
-  here_is = slice_get-get_or seen.rows.keys n next there
-
+module _ (v : Values) (turns : List Turn) (row next : Situation) (t : Turn)
+    (comes : after_moves v (beginning v) turns ≡ Some row) (leads : moved v row t.step t.core ≡ Some next) where
   pub way_on : after_moves v (beginning v) (turns ++ t ∷ []) ≡ Some next
-  way_on = after_more v (beginning v) (get_or seen.rows.keys n next) turns t (comes ∙ here_is)
-      ∙ leads (get_or seen.rows.keys n next) here_is
+  way_on = after_more v (beginning v) row turns t comes ∙ leads
 
   pub led_to : Leads v (beginning v) next
   led_to = leads_on v (beginning v) (beginning v) next (turns ++ t ∷ []) here way_on
@@ -331,17 +328,23 @@ popped old before after t n is size left =
 
 -- The beginning
 
-module _ (v : Values) (seen : Seen) (rows : seen.rows.keys ≡ []) (dead : seen.dead.items ≡ []) where
+module _ (v : Values) (seen : Seen) (n a : ℕ) (cores : n ≡ length v.cores) (addresses : a ≡ length v.initial)
+    (is : seen.rows ≡ record { cores = n; addresses = a; keys = [] }) (dead : seen.dead.items ≡ []) where
+  no_keys : seen.rows.keys ≡ []
+  no_keys = ap (λ (z : SeenRows). z.keys) is
+
   pub none_searched : AreSearched v seen
   none_searched = record {
-    size = ap (λ (l : List Bool). length l) dead ∙ sym (ap (λ (l : List Situation). length l) rows);
-    reached = subst (All (Leads v (beginning v))) (sym rows) (All-nil (Leads v (beginning v)));
-    different = subst (IsDistinct same_situation) (sym rows)
+    cores = ap (λ (z : SeenRows). z.cores) is ∙ cores;
+    addresses = ap (λ (z : SeenRows). z.addresses) is ∙ addresses;
+    size = ap (λ (l : List Bool). length l) dead ∙ sym (ap (λ (l : List Situation). length l) no_keys);
+    reached = subst (All (Leads v (beginning v))) (sym no_keys) (All-nil (Leads v (beginning v)));
+    different = subst (IsDistinct same_situation) (sym no_keys)
         (IsDistinct-from_apart same_situation [] (λ i j d low inside. absurd (omega (arith, inside))));
-    no_end = subst (All (λ (z : Situation). ¬ IsEnd v z)) (sym rows) (All-nil (λ (z : Situation). ¬ IsEnd v z));
+    no_end = subst (All (λ (z : Situation). ¬ IsEnd v z)) (sym no_keys) (All-nil (λ (z : Situation). ¬ IsEnd v z));
     vain = λ r d move c. absurd (let clash : false ≡ true =
         sym (ap (λ (l : List Bool). get_or l d.0 false) dead) ∙ d.2 in cc);
   }
 
   pub none_known : (r : Situation) → list_any (same_situation r) seen.rows.keys ≡ false
-  none_known r = ap (list_any (same_situation r)) rows
+  none_known r = ap (list_any (same_situation r)) no_keys

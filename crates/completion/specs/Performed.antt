@@ -13,8 +13,10 @@ use Rattle.values.specs.Final.{value_by}
 use Rattle.values.specs.Refused.{events_alone}
 use Rattle.values.specs.Values.{Values, known_source}
 use Rattle.completion.specs.Search.{event_of}
-use Rattle.completion.specs.Situation.{Memory, Situation, between, drained_of, events_of, is_free_at, mark, marked, number_of}
-use Rattle.completion.specs.Situation.{place_of, youngest, IsEnd}
+use Rattle.completion.specs.Situation.{Memory, Situation, drained_of, events_of, is_free_at, mark, marked, number_of}
+use Rattle.situations.specs.Step.{stored_by_event}
+use Rattle.situations.specs.Waiting.{between, youngest}
+use Rattle.completion.specs.Situation.{place_of, IsEnd}
 
 -- whether an address, if there is one, is address a
 abbrev pub is_address : Option ℕ → ℕ → Bool
@@ -105,7 +107,7 @@ order_after v order c j F = order ++ number_of v.cores c j ∷ []
 -- and the sources, where memory has its stores before place d
 abbrev pub sources_after : Values → List ℕ → List (Option ℕ) → ℕ → ℕ → ℕ → Event → List (Option ℕ)
 sources_after v order sources c d j (L a r s) = slice_set sources (number_of v.cores c j) (source_found v c
-    (youngest a None d (between (events_of v.cores c) d j)) (last_of (writers v a order)))
+    (youngest stored_by_event a None d (between (events_of v.cores c) d j)) (last_of (writers v a order)))
 sources_after v order sources c d j (S a w) = sources
 sources_after v order sources c d j (R a r s w) = sources
 sources_after v order sources c d j (C a r s) =

@@ -33,6 +33,8 @@ IsVain v seen r move c = IsEarly v r move c
 
 -- each situation was reached, once, and is not at its end; all moves of dead ones are vain
 pub record AreSearched (v : Values) (seen : Seen) : Type 0 where
+  pub cores : seen.rows.cores ≡ length v.cores
+  pub addresses : seen.rows.addresses ≡ length v.initial
   pub size : length seen.dead.items ≡ length seen.rows.keys
   pub reached : All (Leads v (beginning v)) seen.rows.keys
   pub different : IsDistinct same_situation seen.rows.keys

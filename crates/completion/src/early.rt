@@ -6,12 +6,12 @@ ghost use Rattle.completion.specs.Situation.{number_of};
 ghost use Rattle.completion.specs.Search.{HasToWait, IsEarly, IsForced, IsLeft, Performs};
 
 use crate::counts::{core_count, number_of};
-use crate::events::{between, oldest};
 use crate::moves::Move;
 use crate::pairs::has;
 use crate::row::Row;
 use bitrow::BitRow;
 use recording::Event;
+use situations::{between, oldest};
 use values::Values;
 
 /// The place of the event that a move of a core performs, if it can be made.

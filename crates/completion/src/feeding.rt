@@ -6,11 +6,11 @@ ghost use Rattle.completion.specs.Left.{IsInRow};
 ghost use Rattle.completion.specs.Pairs.{IsTable};
 ghost use Rattle.completion.specs.Part.{IsFedAmong, MayFeed};
 
-use crate::events::value_at;
 use crate::sources::writes_to;
 use crate::table::{Placed, event_at};
 use bitrow::BitRow;
 use common::EventId;
+use situations::value_at;
 use values::Values;
 
 /// The source of the event of a number that is known, if one is.

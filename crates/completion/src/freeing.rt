@@ -2,14 +2,16 @@
 
 ghost use Rattle.std.specs.Prelude.{◌≡◌, ◌&&◌, ◌==◌, ◌<◌, None, length, slice_index, slice_index_or};
 ghost use Rattle.recording.specs.declared.event.Event.TheVariants.{F};
-ghost use Rattle.completion.specs.Situation.{between, drained_of, events_of, forwarded, is_free, mark_read, may_read};
-ghost use Rattle.completion.specs.Situation.{past_free, place_of, source_at, youngest};
+ghost use Rattle.completion.specs.Situation.{drained_of, events_of, is_free, mark_read, may_read};
+ghost use Rattle.completion.specs.Situation.{past_free, place_of, source_at};
+ghost use Rattle.situations.specs.Step.{stored_by_event};
+ghost use Rattle.situations.specs.Waiting.{between, youngest};
 
-use crate::events::{between, forwarded, none_waits, value_at, youngest};
 use crate::marks::{mark_at, mark_read, may_read, source_at};
 use crate::row::Row;
 use common::Addr;
 use recording::Event;
+use situations::{between, forwarded, none_waits, value_at, youngest};
 use values::Values;
 
 /// Whether a load may take its value from where it finds it, as far as its source is known.
@@ -23,7 +25,7 @@ fn may_forward(
 ) -> bool
     ensures { result ≡ may_read (source_at values.now core at) (mark_read values.now core
         (slice_index row.now.memory.marks address)
-        (youngest address None from (between (events_of values.now.cores core) from at))) }
+        (youngest stored_by_event address None from (between (events_of values.now.cores core) from at))) }
 {
     let known = source_at(values, core, at);
     if known.is_none() {

@@ -5,8 +5,8 @@ ghost use Rattle.values.specs.Values.{known_final};
 ghost use Rattle.completion.specs.Situation.{IsEnd, IsOver};
 
 use crate::counts::core_count;
-use crate::events::{between, oldest, value_at};
 use crate::row::Row;
+use situations::{between, oldest, value_at};
 use values::Values;
 
 /// Whether a core has come to its end.

@@ -12,12 +12,12 @@ ghost use Rattle.completion.specs.Situation.{moved};
 
 use crate::counts::core_count;
 use crate::early::is_early;
-use crate::events::{between, oldest, value_at};
-use crate::moves::{Move, Turn, Waiting};
+use crate::moves::{Move, Turn};
 use crate::row::Row;
 use bitrow::BitRow;
 use common::{Addr, OutOfMemory};
 use recording::Event;
+use situations::{Waiting, between, oldest, value_at};
 use std::alloc::Global;
 use values::Values;
 

@@ -1,34 +1,35 @@
 //! Rows that a search has seen.
 
 use crate::row::Row;
+use crate::rows::Rows;
 use common::OutOfMemory;
-use indexmap::IndexSet;
 use std::alloc::Global;
 
-/// Rows that a search has seen, each once, in the order in which they came; and for each, whether it is dead: no way leads
-/// from it to the end.
+/// Rows that a search has seen, each once, in the order in which they came; and for each, whether it is dead: no way
+/// leads from it to the end.
 #[derive(Drop)]
 pub struct Seen {
-    rows: IndexSet<Row>,
+    rows: Rows,
     dead: Vec<bool>,
 }
 
 impl Seen {
-    ghost use Rattle.std.specs.Prelude.{◌≡◌, ◌<◌, ◌++◌, ◌∷◌, [], IfNone, IfOk, IfSome, OnOk, Some, false, true};
+    ghost use Rattle.std.specs.Prelude.{◌≡◌, ◌+◌, ◌^◌, ◌<◌, ◌++◌, ◌∷◌, [], IfNone, IfOk, IfSome, OnOk, Some, false, true};
     ghost use Rattle.std.specs.Prelude.{length, slice_get, slice_index_or, slice_set};
     ghost use Rattle.std.specs.List.{list_any};
-    ghost use Rattle.completion.specs.Row.{same_situation};
+    ghost use Rattle.completion.specs.Row.{FitsAmong, IsSmall, same_situation};
     ghost use Rattle.completion.specs.Seen.{HasNumber};
 
-    /// No rows.
-    pub(crate) fn new(alloc: Global) -> Seen
-        ensures rows { result.rows.keys ≡ [] }
-        ensures dead { result.dead.items ≡ [] }
+    /// No rows, of as many cores and addresses. Fails only if out of memory.
+    pub(crate) fn new(alloc: Global, cores: usize, addresses: usize) -> Result<Seen, OutOfMemory>
+        requires { cores + cores + addresses + addresses < 2 ^ 32 }
+        ensures rows { IfOk result (λ seen. seen.rows ≡ record { cores = cores; addresses = addresses; keys = [] }) }
+        ensures dead { IfOk result (λ seen. seen.dead.items ≡ []) }
     {
-        Seen {
-            rows: IndexSet::new(alloc),
+        Ok(Seen {
+            rows: Rows::new(alloc, cores, addresses)?,
             dead: Vec::new(alloc),
-        }
+        })
     }
 
     /// How many rows there are.
@@ -38,21 +39,23 @@ impl Seen {
         self.rows.len()
     }
 
-    /// The row with a number.
-    pub(crate) fn row(&self, number: usize) -> &Row
+    /// A copy of the row with a number. Fails only if out of memory.
+    pub(crate) fn row(&self, alloc: Global, number: usize) -> Result<Row, OutOfMemory>
         requires { number < length self.now.rows.keys }
-        ensures { HasNumber self.now result.now number }
+        ensures { IfOk result (λ r. HasNumber self.now r number) }
     {
-        let rows = self.rows.as_slice();
-        &rows[number]
+        self.rows.row(alloc, number)
     }
 
-    /// The number of a row; none where it was not seen.
-    pub(crate) fn number(&self, row: &Row) -> Option<usize>
-        ensures known { IfSome result (HasNumber self.now row.now) }
-        ensures new { IfNone result (list_any (same_situation row.now) self.now.rows.keys ≡ false) }
+    /// The number of a row; none where it was not seen. Fails only if out of memory.
+    pub(crate) fn number(&mut self, alloc: Global, row: &Row) -> Result<Option<usize>, OutOfMemory>
+        requires fits { FitsAmong self.old.rows row.now }
+        requires small { IsSmall row.now }
+        ensures known { IfOk result (λ o. IfSome o (HasNumber self.old row.now)) }
+        ensures new { IfOk result (λ o. IfNone o (list_any (same_situation row.now) self.old.rows.keys ≡ false)) }
+        ensures kept { self.new ≡ self.old }
     {
-        self.rows.get_index_of(row)
+        self.rows.number(alloc, row)
     }
 
     /// Whether the row with a number is dead.
@@ -66,15 +69,18 @@ impl Seen {
         }
     }
 
-    /// Adds a row that was not seen, and gives its number. Fails only if out of memory.
-    pub(crate) fn add(&mut self, row: Row) -> Result<usize, OutOfMemory>
-        requires new { list_any (same_situation row) self.old.rows.keys ≡ false }
-        ensures rows { OnOk result (self.new.rows.keys ≡ self.old.rows.keys ++ row ∷ []) }
+    /// Adds a row that was not seen, and gives its number. Fails only if out of memory, or with 2^32 - 1 rows.
+    pub(crate) fn add(&mut self, alloc: Global, row: &Row) -> Result<usize, OutOfMemory>
+        requires fits { FitsAmong self.old.rows row.now }
+        requires small { IsSmall row.now }
+        requires new { list_any (same_situation row.now) self.old.rows.keys ≡ false }
+        ensures rows { OnOk result (self.new.rows
+            ≡ record self.old.rows { keys = self.old.rows.keys ++ row.now ∷ [] }) }
         ensures dead { OnOk result (self.new.dead.items ≡ self.old.dead.items ++ false ∷ []) }
         ensures number { IfOk result (λ i. i ≡ length self.old.rows.keys) }
     {
         let number = self.rows.len();
-        let _new = self.rows.insert(row)?;
+        self.rows.push(alloc, row)?;
         self.dead.push(false)?;
         Ok(number)
     }

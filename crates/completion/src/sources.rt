@@ -6,9 +6,9 @@ ghost use Rattle.completion.specs.Sources.{found_of, IsFoundSource, Matches, May
 ghost use Rattle.recording.specs.Execution.{Reads, Writes, ProgramOrder, event_at};
 ghost use Rattle.values.specs.Refused.{events_alone};
 
-use crate::events::value_at;
 use crate::table::{Placed, core_of, event_at};
 use common::{Addr, EventId};
+use situations::value_at;
 use values::Values;
 
 /// The source of a read, as far as it is known.

@@ -21,10 +21,12 @@ use Rattle.replay.specs.Steps.{Replaying, execute_to, perform, with_steps}
 use Rattle.replay.proofs.WrittenSteps.{more_steps}
 use Rattle.outcomes.specs.declared.moves.Move.{Move}
 use Rattle.outcomes.specs.declared.moves.Move.TheVariants.{Exec, Drain}
-use Rattle.outcomes.specs.declared.ops.Waiting.{Waiting}
+use Rattle.situations.specs.declared.waiting.Waiting.{Waiting}
 use Rattle.outcomes.specs.Follow.{Follows, HasComeTo}
 use Rattle.outcomes.specs.Reachable.{outcome_in}
-use Rattle.outcomes.specs.Situation.{Situation, IsEnd, beginning, moved, oldest, ops_of, stores_first, waiting}
+use Rattle.outcomes.specs.Situation.{Situation, IsEnd, beginning, moved, ops_of, stores_first, waiting}
+use Rattle.situations.specs.Step.{stored_by_op}
+use Rattle.situations.specs.Waiting.{oldest}
 use Rattle.outcomes.specs.Situation as row
 use Rattle.outcomes.specs.Witness.{IsRecordingOf, op_moved}
 use Rattle.outcomes.proofs.Ends.{opening_followed}
@@ -34,7 +36,7 @@ use Rattle.outcomes.proofs.Reached.{complete_there, core_few, fits, recorded_the
 -- Addresses
 
 -- what holds of all operations of a list holds of its oldest store
-oldest_op : (P : Op → Type 0) (l : List Op) (i : ℕ) (x : Waiting) → oldest i l ≡ Some x → All P l
+oldest_op : (P : Op → Type 0) (l : List Op) (i : ℕ) (x : Waiting) → oldest stored_by_op i l ≡ Some x → All P l
     → P (St x.address x.value)
 oldest_op P [] i x h all = absurd cc
 oldest_op P (St a v ∷ l) i x h all =
@@ -50,9 +52,9 @@ op_within n p r Exec c op all core is =
     let inside = slice_get_within (ops_of p c) (row.place_of r c) op is in
     subst (IsWithin n) (get_or_from_slice_get (ops_of p c) (row.place_of r c) op op is)
     (all c [] core (row.place_of r c) op inside)
-op_within n p r Drain c op all core is = go (oldest (row.drained_of r c) (waiting p r c)) refl
+op_within n p r Drain c op all core is = go (oldest stored_by_op (row.drained_of r c) (waiting p r c)) refl
   where
-    go : (o : Option Waiting) → oldest (row.drained_of r c) (waiting p r c) ≡ o → IsWithin n op
+    go : (o : Option Waiting) → oldest stored_by_op (row.drained_of r c) (waiting p r c) ≡ o → IsWithin n op
     go None at = absurd (let clash : None ≡ Some op =
         sym (ap (option_map (λ (x : Waiting). St x.address x.value)) at) ∙ is in cc)
     go (Some x) at =

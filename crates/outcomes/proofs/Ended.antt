@@ -1,5 +1,5 @@
 -- The outcomes of the situations that were looked at so far, and one more.
-use Rattle.std.proofs.Common.{◌≡◌, ◌<◌, ◌≤◌, ◌+◌, inl, inr, ℕ, zero, suc, Bool, true, false, cond, Some, List}
+use Rattle.std.proofs.Common.{◌≡◌, ◌<◌, ◌≤◌, ◌+◌, inl, inr, ℕ, Bool, true, false, cond, Some, List}
 use Rattle.std.proofs.Common.{[], ◌∷◌, ◌++◌, length, get_or, slice_get, arith, refl, sym, ap, subst, ◌∙◌}
 use Rattle.std.specs.List.{All, Contains, list_any}
 use Rattle.std.specs.Cmp.Lexicographic.{same_text}
@@ -13,7 +13,10 @@ use Rattle.indexmap.proofs.CallerLemmas.{Contains-insert_key}
 use Rattle.program.specs.declared.op.Op.{Op}
 use Rattle.program.specs.Parts.{Parts, IsProgram}
 use Rattle.outcomes.specs.Outcome.{Outcome, IsAllowed, AreOutcomes}
-use Rattle.outcomes.specs.Situation.{Situation, moved, beginning, between, ops_of, oldest, place_of, drained_of}
+use Rattle.outcomes.specs.Situation.{Situation, moved, beginning, ops_of, place_of, drained_of}
+use Rattle.situations.proofs.Ranges.{between_nothing}
+use Rattle.situations.specs.Step.{stored_by_op}
+use Rattle.situations.specs.Waiting.{between, oldest}
 use Rattle.outcomes.specs.Situation.{IsOver, IsEnd}
 use Rattle.outcomes.specs.Reachable.{Leads, here, further, AreReachable, outcome_in, ComesTo, EveryOutcomeIsReached}
 use Rattle.outcomes.specs.Listed.{same_outcome, with_outcome, IsEnding, AreEndings}
@@ -96,16 +99,10 @@ pub over_past : (p : List (List Op)) (r : Situation) (c : ℕ) → length p ≤ 
 over_past p r c past =
     let none : ops_of p c ≡ [] = get_or_past p c [] past in (
       ap (λ (l : List Op). slice_get l (place_of r c)) none,
-      ap (λ (l : List Op). oldest (drained_of r c) l)
+      ap (λ (l : List Op). oldest stored_by_op (drained_of r c) l)
           (ap (λ (l : List Op). between l (drained_of r c) (place_of r c)) none
-          ∙ empty (drained_of r c) (place_of r c)),
+          ∙ between_nothing (drained_of r c) (place_of r c)),
     )
-  where
-    empty : (d k : ℕ) → between [] d k ≡ []
-    empty zero zero = refl
-    empty (suc d) zero = refl
-    empty zero (suc k) = refl
-    empty (suc d) (suc k) = refl
 
 -- where all cores that are there have
 pub all_over : (p : List (List Op)) (r : Situation) → ((c : ℕ) → c < length p → IsOver p r c) → IsEnd p r

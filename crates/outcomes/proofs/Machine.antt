@@ -41,14 +41,17 @@ use Rattle.replay.proofs.OrderlyRuns.{StaysOrderly}
 use Rattle.replay.proofs.StepLists.{StepsLead, is_at, fetch_read, fetch_write, write_made}
 use Rattle.outcomes.specs.declared.moves.Move.{Move}
 use Rattle.outcomes.specs.declared.moves.Move.TheVariants.{Exec, Drain}
-use Rattle.outcomes.specs.Situation.{Situation, stores_first, between, ops_of, waiting, oldest, may_go, executed_next}
-use Rattle.outcomes.specs.Situation.{moved, none_waits, drained_by}
+use Rattle.outcomes.specs.Situation.{Situation, stores_first, ops_of, waiting, may_go, executed_next}
+use Rattle.situations.specs.Step.{stored_by_op}
+use Rattle.situations.specs.Waiting.{between, none_waits, oldest}
+use Rattle.outcomes.specs.Situation.{moved, drained_by}
 use Rattle.outcomes.specs.Reachable.{Leads, here, further}
 use Rattle.outcomes.specs.Situation as row
 use Rattle.outcomes.specs.Witness.{op_moved}
-use Rattle.outcomes.specs.declared.ops.Waiting.{Waiting}
+use Rattle.situations.specs.declared.waiting.Waiting.{Waiting}
 use Rattle.outcomes.specs.Follow.{entries, Follows}
-use Rattle.outcomes.proofs.Stores.{found_oldest, entries_few, length_between, no_entries, none_found, a_store}
+use Rattle.situations.proofs.Ranges.{length_between}
+use Rattle.outcomes.proofs.Stores.{found_oldest, entries_few, no_entries, none_found, a_store}
 use Rattle.outcomes.proofs.Stores.{store_stands}
 use Rattle.outcomes.proofs.Follow.{follow_store}
 use Rattle.outcomes.proofs.Grown.{moved_past}
@@ -446,7 +449,7 @@ module _ (cs : List (List Op)) (init : List ℕ) (capacity : ℕ)
           core = omega (arith, core, (in_order s h).steady.places);
         }
 
-        empty : may_go (waiting cs r c) op ≡ none_waits (waiting cs r c) → buffer_of s c ≡ []
+        empty : may_go (waiting cs r c) op ≡ none_waits stored_by_op (waiting cs r c) → buffer_of s c ≡ []
         empty same =
             (f.cores c).buffer
             ∙ (ap (λ (k : ℕ). entries (first_event cs c + row.drained_of r c)
@@ -547,9 +550,9 @@ module _ (cs : List (List Op)) (init : List ℕ) (capacity : ℕ)
           → (op : Op) × (op_moved cs r Exec c ≡ Some op)
       go None at = absurd (let clash : None ≡ Some q = sym (ap (executed_next cs r c) at) ∙ is in cc)
       go (Some op) at = (op, at)
-  has_op r q Drain c is = go (oldest (row.drained_of r c) (waiting cs r c)) refl
+  has_op r q Drain c is = go (oldest stored_by_op (row.drained_of r c) (waiting cs r c)) refl
     where
-      go : (o : Option Waiting) → oldest (row.drained_of r c) (waiting cs r c) ≡ o
+      go : (o : Option Waiting) → oldest stored_by_op (row.drained_of r c) (waiting cs r c) ≡ o
           → (op : Op) × (op_moved cs r Drain c ≡ Some op)
       go None at = absurd (let clash : None ≡ Some q = sym (ap (drained_by r c) at) ∙ is in cc)
       go (Some x) at = (St x.address x.value, ap (option_map (λ (w : Waiting). St w.address w.value)) at)

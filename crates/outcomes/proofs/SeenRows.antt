@@ -16,11 +16,13 @@ use Rattle.program.specs.declared.op.Op.TheVariants.{Ld, Swap, Add, Cas}
 use Rattle.machine.specs.State.{first_event}
 use Rattle.outcomes.specs.declared.moves.Move.{Move}
 use Rattle.outcomes.specs.declared.moves.Move.TheVariants.{Exec, Drain}
-use Rattle.outcomes.specs.declared.ops.Waiting.{Waiting}
+use Rattle.situations.specs.declared.waiting.Waiting.{Waiting}
 use Rattle.situations.specs.Chains.{with_list}
 use Rattle.situations.specs.Packed.{PackedLists}
 use Rattle.outcomes.specs.Row.{AreOnce, FitsAmong, SeenRows, row_of, same_situation}
-use Rattle.outcomes.specs.Situation.{Situation, drained_by, executed_next, may_go, moved, oldest, ops_of, performed}
+use Rattle.outcomes.specs.Situation.{Situation, drained_by, executed_next, may_go, moved, ops_of, performed}
+use Rattle.situations.specs.Step.{stored_by_op}
+use Rattle.situations.specs.Waiting.{oldest}
 use Rattle.outcomes.specs.Situation.{waiting}
 use Rattle.outcomes.specs.Situation as row
 use Rattle.situations.proofs.ChainedLists.{with_known, with_new}
@@ -141,7 +143,7 @@ move_fits p rows r s Exec c fits is = go (slice_get (ops_of p c) (row.place_of r
     go : (o : Option Op) → executed_next p r c o ≡ Some s → FitsAmong rows s
     go None none = absurd (let clash : None ≡ Some s = none in cc)
     go (Some op) done = by op (may_go (waiting p r c) op) done
-move_fits p rows r s Drain c fits is = go (oldest (row.drained_of r c) (waiting p r c)) is
+move_fits p rows r s Drain c fits is = go (oldest stored_by_op (row.drained_of r c) (waiting p r c)) is
   where
     go : (o : Option Waiting) → drained_by r c o ≡ Some s → FitsAmong rows s
     go None none = absurd (let clash : None ≡ Some s = none in cc)

@@ -12,7 +12,8 @@ use Rattle.machine.specs.Orderly.{placed_op}
 use Rattle.machine.specs.State.{State, place_of, buffer_of, current_copy, first_event, event_of, opening}
 use Rattle.machine.specs.Step.{run}
 use Rattle.replay.specs.Steps.{Replaying}
-use Rattle.outcomes.specs.Situation.{Situation, past_stores, between, ops_of}
+use Rattle.outcomes.specs.Situation.{Situation, past_stores, ops_of}
+use Rattle.situations.specs.Waiting.{between}
 use Rattle.outcomes.specs.Situation as row
 
 -- the entry of an operation with this number, if it is a plain store

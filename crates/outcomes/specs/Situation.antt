@@ -1,9 +1,8 @@
 -- A machine with store buffers over one memory, without caches and without events: how far each core is, and values.
-use Rattle.std.specs.Prelude.{◌≡◌, ◌+◌, ◌%◌, ◌^◌, ◌==◌, ℕ, suc, Bool, true, false, not, if◌then◌else◌, Option, Some}
+use Rattle.std.specs.Prelude.{◌≡◌, ◌+◌, ◌%◌, ◌^◌, ◌==◌, ℕ, suc, Bool, true, false, if◌then◌else◌, Option, Some}
 use Rattle.std.specs.Prelude.{None}
-use Rattle.std.specs.Prelude.{List, [], ◌∷◌, map, length, take, drop, replicate, slice_index, slice_index_or}
+use Rattle.std.specs.Prelude.{List, [], ◌∷◌, map, length, drop, replicate, slice_index, slice_index_or}
 use Rattle.std.specs.Prelude.{is_some, slice_get, slice_set}
-use Rattle.std.specs.List.{list_any}
 use Rattle.program.specs.declared.op.Op.{Op}
 use Rattle.program.specs.declared.op.Op.TheVariants.{St, Ld, Swap, Add, Cas}
 use Rattle.program.specs.Parts.{Parts, op_count}
@@ -11,7 +10,9 @@ use Rattle.machine.specs.State.{first_event}
 use Rattle.machine.specs.Orderly.{is_st, op_reads}
 use Rattle.outcomes.specs.declared.moves.Move.{Move}
 use Rattle.outcomes.specs.declared.moves.Move.TheVariants.{Exec, Drain}
-use Rattle.outcomes.specs.declared.ops.Waiting.{Waiting}
+use Rattle.situations.specs.Step.{stored_by_op}
+use Rattle.situations.specs.Waiting.{between, forwarded, none_waits, oldest}
+use Rattle.situations.specs.declared.waiting.Waiting.{Waiting}
 
 -- what was reached
 pub record Situation : Type 0 where
@@ -50,42 +51,9 @@ place_of r c = slice_index r.places c
 abbrev pub drained_of : Situation → ℕ → ℕ
 drained_of r c = slice_index r.drained c
 
--- the operations between two places
-abbrev pub between : List Op → ℕ → ℕ → List Op
-between ops d k = drop d (take k ops)
-
 -- the operations of core c among which its waiting stores are
 abbrev pub waiting : List (List Op) → Situation → ℕ → List Op
 waiting p r c = between (ops_of p c) (drained_of r c) (place_of r c)
-
--- the store that waits at place i, if it is one
-abbrev pub waiting_at : ℕ → Op → Option Waiting
-waiting_at i (St a v) = Some (record { place = i; address = a; value = v })
-waiting_at i op = None
-
--- the first, unless there is none
-abbrev pub else_later : Option Waiting → Option Waiting → Option Waiting
-else_later (Some x) later = Some x
-else_later None later = later
-
--- the oldest store of a list that begins at place i
-abbrev pub oldest : ℕ → List Op → Option Waiting
-oldest i [] = None
-oldest i (op ∷ ops) = else_later (waiting_at i op) (oldest (suc i) ops)
-
--- no store waits
-abbrev pub none_waits : List Op → Bool
-none_waits ops = not (list_any is_st ops)
-
--- the value that an operation has stored to address a, and v where it is no store to it
-abbrev pub newer : ℕ → ℕ → Op → ℕ
-newer a v (St b w) = if b == a then w else v
-newer a v op = v
-
--- the value of the youngest store to address a, and v where none waits
-abbrev pub forwarded : ℕ → ℕ → List Op → ℕ
-forwarded a v [] = v
-forwarded a v (op ∷ ops) = forwarded a (newer a v op) ops
 
 -- Effects
 
@@ -124,7 +92,7 @@ modified r e a op = with_value (with_read r e (slice_index r.memory a)) a (left_
 
 -- what op does to values as event e, where these stores wait before it
 abbrev pub performed : Situation → List Op → ℕ → Op → Situation
-performed r ops e (Ld a) = with_read r e (forwarded a (slice_index r.memory a) ops)
+performed r ops e (Ld a) = with_read r e (forwarded stored_by_op a (slice_index r.memory a) ops)
 performed r ops e (Swap a w) = modified r e a (Swap a w)
 performed r ops e (Add a w) = modified r e a (Add a w)
 performed r ops e (Cas a x w) = modified r e a (Cas a x w)
@@ -134,7 +102,7 @@ performed r ops e op = r
 abbrev pub may_go : List Op → Op → Bool
 may_go ops (St a v) = false
 may_go ops (Ld a) = true
-may_go ops op = none_waits ops
+may_go ops op = none_waits stored_by_op ops
 
 -- what op of core c, at place k and with the number e, leads to
 abbrev pub executed : List (List Op) → Situation → ℕ → ℕ → ℕ → Op → Option Situation
@@ -154,7 +122,7 @@ drained_by r c (Some x) = Some (with_value (with_drained r c (x.place + 1)) x.ad
 -- what a move of core c leads to; none where it cannot be made
 abbrev pub moved : List (List Op) → Situation → Move → ℕ → Option Situation
 moved p r Exec c = executed_next p r c (slice_get (ops_of p c) (place_of r c))
-moved p r Drain c = drained_by r c (oldest (drained_of r c) (waiting p r c))
+moved p r Drain c = drained_by r c (oldest stored_by_op (drained_of r c) (waiting p r c))
 
 -- where a program begins
 abbrev pub beginning : Parts → Situation
@@ -168,7 +136,7 @@ beginning p = record {
 -- core c has come to its end
 abbrev pub IsOver : List (List Op) → Situation → ℕ → Type 0
 IsOver p r c = (slice_get (ops_of p c) (place_of r c) ≡ None)
-    × (oldest (drained_of r c) (waiting p r c) ≡ None)
+    × (oldest stored_by_op (drained_of r c) (waiting p r c) ≡ None)
 
 -- every core of the program has
 abbrev pub IsEnd : List (List Op) → Situation → Type 0

@@ -16,12 +16,14 @@ use Rattle.outcomes.specs.Listed.{AreListed}
 use Rattle.outcomes.specs.Observed.{IsExplained, shows_all}
 use Rattle.outcomes.specs.Outcome.{IsOutcomeOf, Outcome}
 use Rattle.outcomes.specs.Reachable.{HasMore, outcome_in}
-use Rattle.outcomes.specs.Situation.{Situation, IsEnd, drained_of, oldest, ops_of, place_of, waiting}
+use Rattle.outcomes.specs.Situation.{Situation, IsEnd, drained_of, ops_of, place_of, waiting}
+use Rattle.situations.specs.Step.{stored_by_op}
+use Rattle.situations.specs.Waiting.{oldest}
 
 -- the operation that a move of core c performs
 abbrev pub op_moved : List (List Op) → Situation → Move → ℕ → Option Op
 op_moved p r Exec c = slice_get (ops_of p c) (place_of r c)
-op_moved p r Drain c = option_map (λ x. St x.address x.value) (oldest (drained_of r c) (waiting p r c))
+op_moved p r Drain c = option_map (λ x. St x.address x.value) (oldest stored_by_op (drained_of r c) (waiting p r c))
 
 -- the situation with number i is at its end, with the outcome
 pub record IsEndingAt (p : List (List Op)) (rows : List Situation) (o : Outcome) (i : ℕ) : Type 0 where

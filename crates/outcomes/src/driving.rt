@@ -10,7 +10,6 @@ ghost use Rattle.outcomes.specs.Witness.{op_moved};
 
 use crate::moves::{Move, Turn};
 use crate::opening::{beginning, op_count};
-use crate::ops::{between, oldest};
 use crate::reads::first_event;
 use crate::row::Row;
 use crate::steps::after;
@@ -18,6 +17,7 @@ use common::{CoreId, OutOfMemory};
 use machine::{Fault, Machine, event_of};
 use program::{Op, Program};
 use replay::Replay;
+use situations::{between, oldest};
 use std::alloc::Global;
 
 /// The operation that a move performs; none where it can't be made.

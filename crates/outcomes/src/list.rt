@@ -9,7 +9,6 @@ ghost use Rattle.std.specs.List.Sorted.{IsSorted};
 ghost use Rattle.outcomes.specs.Listed.{AreEndings, IsEnding, compared, same_outcome, with_outcome};
 
 use crate::law::every_outcome_is_reached;
-use crate::ops::{between, oldest};
 use crate::outcome::Outcome;
 use crate::row::Row;
 use crate::rows::Rows;
@@ -17,6 +16,7 @@ use crate::seen::search;
 use common::{CoreId, OutOfMemory};
 use indexmap::IndexSet;
 use program::Program;
+use situations::{between, oldest};
 use std::alloc::Global;
 
 /// Whether a core has come to its end.

@@ -4,8 +4,8 @@ ghost use Rattle.std.specs.Prelude.{◌≡◌};
 ghost use Rattle.outcomes.specs.Observed.{ExplainsAllowed, explains, is_of_one, shows, shows_all};
 
 use crate::outcome::Outcome;
-use crate::reads::value_at;
 use common::{Addr, EventId};
+use situations::value_at;
 
 /// One value that was seen.
 #[derive(Clone, Copy, Debug, PartialEq, Eq)]

@@ -1,19 +1,12 @@
 //! Which operations read, and what.
 
-ghost use Rattle.std.specs.Prelude.{◌≡◌, ◌<◌, ◌≤◌, length, slice_index};
+ghost use Rattle.std.specs.Prelude.{◌≡◌, ◌<◌, ◌≤◌, length};
 ghost use Rattle.common.specs.declared.limits.TheConstants.{MAX_EVENTS};
 ghost use Rattle.program.specs.Parts.{op_count};
 ghost use Rattle.machine.specs.State.{first_event};
 ghost use Rattle.outcomes.specs.Situation.{does_read};
 
 use program::{Op, Ops};
-
-/// The value at an index, and 0 past the end.
-pub fn value_at(list: &[u32], index: usize) -> u32
-    ensures { result ≡ slice_index list.now index }
-{
-    if index < list.len() { list[index] } else { 0 }
-}
 
 /// Whether an operation reads.
 pub fn does_read(op: Op) -> bool

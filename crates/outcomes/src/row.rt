@@ -1,9 +1,8 @@
 //! Situations, as rows of numbers.
 
-use crate::reads::value_at;
 use common::OutOfMemory;
+use situations::value_at;
 use std::alloc::Global;
-use std::hash::{Hash, Hasher};
 use std::marker::Model;
 
 /// How far each core of a machine with store buffers over one memory is, and values: what a search
@@ -45,32 +44,6 @@ impl PartialEq for Row {
             && self.drains() == other.drains()
             && self.memory() == other.memory()
             && self.reads() == other.reads()
-    }
-}
-
-impl Eq for Row {
-    ghost use Rattle.std.specs.Cmp.Rules.{comparing};
-    ghost use Rattle.std.proofs.Common.{rules};
-
-    ghost laws = { Prim.search (comparing, rules) };
-}
-
-impl Hash for Row {
-    ghost use Rattle.std.specs.Prelude.{◌++◌};
-    ghost use Rattle.std.specs.Hash as fed;
-    ghost use Rattle.std.specs.Cmp.Rules.{hashing};
-    ghost use Rattle.std.proofs.Common.{rules};
-
-    ghost hash_input = { λ r. fed.slice fed.u32 r.places ++ fed.slice fed.u32 r.drained
-        ++ fed.slice fed.u32 r.memory ++ fed.slice fed.u32 r.reads };
-
-    ghost respects_eq = { Prim.search (hashing, rules) };
-
-    fn hash<H: Hasher>(&self, state: &mut H) {
-        self.places().hash(state);
-        self.drains().hash(state);
-        self.memory().hash(state);
-        self.reads().hash(state);
     }
 }
 

@@ -7,11 +7,12 @@ ghost use Rattle.outcomes.specs.Situation.{beginning, executed_next, left_by, ma
 ghost use Rattle.outcomes.specs.Situation.{performed, place_of};
 
 use crate::moves::Move;
-use crate::ops::{between, forwarded, none_waits, oldest, past_stores};
+use crate::ops::past_stores;
 use crate::reads::first_event;
 use crate::row::Row;
 use common::{Addr, CoreId, OutOfMemory};
 use program::{Op, Program};
+use situations::{between, forwarded, none_waits, oldest};
 use std::alloc::Global;
 
 /// The value that a read-modify-write leaves where it reads this one.

@@ -1,3 +1,4 @@
 pub mod PackedLists
 pub mod ChainedLists
 pub mod CodedNumbers
+pub mod Ranges

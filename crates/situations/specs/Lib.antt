@@ -1,3 +1,5 @@
 pub mod Numbers
 pub mod Packed
 pub mod Chains
+pub mod Step
+pub mod Waiting

@@ -7,7 +7,7 @@ use crate::packed_list::{PackedList, part};
 use common::OutOfMemory;
 use std::alloc::Global;
 
-/// PackedList below 2^32, each in a byte where all are below 256 or few are large, else in a word.
+/// Numbers below 2^32, each in a byte where all are below 256 or few are large, else in a word.
 #[derive(Drop)]
 pub(crate) enum Block {
     /// Each in a byte.

@@ -1,4 +1,4 @@
-//! PackedList as codes of a byte each.
+//! Numbers as codes of a byte each.
 
 ghost use Rattle.std.specs.Prelude.{◌≡◌, ◌+◌, ◌++◌, ◌<◌, ◌≤◌, ℕ, All, Contains, IfNone, IfOk, IfSome, List, OnOk, Some, length};
 ghost use Rattle.std.specs.Prelude.{slice_get};
@@ -58,7 +58,7 @@ fn code_of(number: u32, large: &mut Vec<u32>) -> Result<Option<u8>, OutOfMemory>
     }
 }
 
-/// PackedList, each as a code, and the large numbers among them.
+/// Numbers, each as a code, and the large numbers among them.
 #[derive(Drop)]
 pub(crate) struct Coded {
     /// The code of each.

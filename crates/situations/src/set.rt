@@ -1,7 +1,7 @@
 //! Lists of equally many numbers that are found by their numbers.
 
-ghost use Rattle.std.specs.Prelude.{◌≡◌, ◌+◌, ◌^◌, ◌<◌, ◌≤◌, ◌↔◌, Contains, IsTrue, length, replicate, slice_index};
-ghost use Rattle.std.specs.Prelude.{slice_set};
+ghost use Rattle.std.specs.Prelude.{◌≡◌, ◌+◌, ◌^◌, ◌<◌, ◌≤◌, Contains, IfNone, IfSome, Some, length, replicate};
+ghost use Rattle.std.specs.Prelude.{slice_get, slice_index, slice_set};
 ghost use Rattle.situations.specs.Chains.{AreChained, bucket_of, hash_from, mixed};
 ghost use Rattle.situations.specs.Numbers.{numbers_of};
 
@@ -75,11 +75,18 @@ fn link_all(lists: &Packed, heads: &mut Vec<u32>, next: &mut Vec<u32>, words: &m
     }
 }
 
-/// Whether a list is among those that are linked; `words` is room for one.
-fn is_linked(lists: &Packed, heads: &[u32], next: &[u32], list: &[u32], words: &mut [u32]) -> bool
+/// The number of a list among those that are linked; none where it is not there. `words` is room for one.
+fn linked_number(
+    lists: &Packed,
+    heads: &[u32],
+    next: &[u32],
+    list: &[u32],
+    words: &mut [u32],
+) -> Option<usize>
     requires chained { AreChained lists.now.lists (length lists.now.lists) heads.now next.now }
     requires width { length words.old ≡ lists.now.width }
-    ensures { IsTrue result ↔ Contains lists.now.lists list.now }
+    ensures found { IfSome result (λ n. slice_get lists.now.lists n ≡ Some list.now) }
+    ensures none { IfNone result (¬ Contains lists.now.lists list.now) }
 {
     lists.sound();
     let mut at = heads[bucket_of(list, heads.len())] as usize;
@@ -87,11 +94,11 @@ fn is_linked(lists: &Packed, heads: &[u32], next: &[u32], list: &[u32], words: &
         let number = at - 1;
         lists.list(number).read(words);
         if *words == *list {
-            return true;
+            return Some(number);
         }
         at = next[number] as usize;
     }
-    false
+    None
 }
 
 /// Lists of equally many numbers below 2^32, each once, that are found by their numbers: each bucket has a chain of its
@@ -122,8 +129,8 @@ impl Model for ListSet {
 }
 
 impl ListSet {
-    ghost use Rattle.std.specs.Prelude.{◌≡◌, ◌^◌, ◌+◌, ◌<◌, ◌++◌, ◌∷◌, ◌↔◌, [], All, Contains, IfOk, IsTrue, OnErr, OnOk, length};
-    ghost use Rattle.std.specs.Prelude.{slice_index_or};
+    ghost use Rattle.std.specs.Prelude.{◌≡◌, ◌^◌, ◌+◌, ◌<◌, ◌++◌, ◌∷◌, [], All, Contains, IfNone, IfOk, IfSome, OnErr};
+    ghost use Rattle.std.specs.Prelude.{OnOk, Some, length, slice_get, slice_index_or};
     ghost use Rattle.situations.specs.Chains.{with_list};
     ghost use Rattle.situations.specs.Numbers.{numbers_of};
 
@@ -162,12 +169,13 @@ impl ListSet {
         self.lists.list(number)
     }
 
-    /// Whether a list is among them.
-    fn has(&mut self, list: &[u32]) -> bool
-        ensures has { IsTrue result ↔ Contains self.old.lists list.now }
+    /// The number of a list; none where it is not among them.
+    pub fn number(&mut self, list: &[u32]) -> Option<usize>
+        ensures found { IfSome result (λ n. slice_get self.old.lists n ≡ Some list.now) }
+        ensures none { IfNone result (¬ Contains self.old.lists list.now) }
         ensures kept { self.new ≡ self.old }
     {
-        is_linked(&self.lists, &self.heads, &self.next, list, &mut self.words)
+        linked_number(&self.lists, &self.heads, &self.next, list, &mut self.words)
     }
 
     /// Twice as many buckets.
@@ -200,6 +208,25 @@ impl ListSet {
         Ok(())
     }
 
+    /// Adds a list that is not among them. Fails only if out of memory, or with 2^32 - 1 lists.
+    pub fn push(&mut self, alloc: Global, list: &[u32]) -> Result<(), OutOfMemory>
+        requires width { length list.now ≡ self.old.width }
+        requires new { ¬ Contains self.old.lists list.now }
+        ensures err { OnErr result (self.new ≡ self.old) }
+        ensures ok { OnOk result (self.new ≡ record {
+          width = self.old.width;
+          lists = self.old.lists ++ list.now ∷ [];
+        }) }
+    {
+        if self.len() >= u32::MAX as usize {
+            return Err(OutOfMemory);
+        }
+        if self.len() >= self.heads.len() {
+            self.grow(alloc)?;
+        }
+        self.add(alloc, list)
+    }
+
     /// Adds a list, unless it is there. Fails only if out of memory, or with 2^32 - 1 lists.
     pub fn insert(&mut self, alloc: Global, list: &[u32]) -> Result<(), OutOfMemory>
         requires { length list.now ≡ self.old.width }
@@ -209,15 +236,9 @@ impl ListSet {
           lists = with_list self.old.lists list.now;
         }) }
     {
-        if self.has(list) {
-            return Ok(());
+        match self.number(list) {
+            Some(_) => Ok(()),
+            None => self.push(alloc, list),
         }
-        if self.len() >= u32::MAX as usize {
-            return Err(OutOfMemory);
-        }
-        if self.len() >= self.heads.len() {
-            self.grow(alloc)?;
-        }
-        self.add(alloc, list)
     }
 }

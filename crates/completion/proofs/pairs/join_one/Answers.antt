@@ -1,7 +1,7 @@
 use Rattle.std.proofs.Common.{◌≡◌, ◌||◌, ℕ, Bool, List, [], get_or, sym, subst, ap, ◌∙◌}
 use Rattle.std.proofs.lemmas.List.{get_or_default}
 use Rattle.bitrow.specs.Bits.{is_in}
-use Rattle.completion.proofs.Rows.{join_shown}
+use Rattle.completion.proofs.PairRows.{join_shown}
 use Rattle.completion.proofs.pairs.join_one.Goals as goal
 
 pub returns-then-test-clause-shown : goal.returns-then-test-clause-shown

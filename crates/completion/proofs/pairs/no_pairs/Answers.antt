@@ -1,6 +1,6 @@
 use Rattle.std.proofs.Common.{◌≡◌, ◌<◌, ℕ, Bool, false, List, [], length, get_or, arith, sym, subst, ap, ◌∙◌}
 use Rattle.bitrow.specs.Bits.{is_in}
-use Rattle.completion.proofs.Rows.{none_shown, more_none}
+use Rattle.completion.proofs.PairRows.{none_shown, more_none}
 use Rattle.completion.proofs.pairs.no_pairs.Goals as goal
 
 pub returns-clause-square : goal.returns-clause-square

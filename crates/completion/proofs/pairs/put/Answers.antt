@@ -1,7 +1,7 @@
 use Rattle.std.proofs.Common.{◌≡◌, ◌<◌, ◌==◌, ◌||◌, ℕ, Bool, List, [], length, subst, arith}
 use Rattle.std.proofs.lemmas.List.{get_or_default}
 use Rattle.bitrow.specs.Bits.{is_in}
-use Rattle.completion.proofs.Rows.{put_shown}
+use Rattle.completion.proofs.PairRows.{put_shown}
 use Rattle.completion.proofs.pairs.put.Goals as goal
 
 pub returns-clause-shown : goal.returns-clause-shown

@@ -1,16 +1,29 @@
-use Rattle.std.proofs.Common.{◌≡◌, ◌<◌, ◌+◌, ◌-◌, ◌∙◌, inl, inr, ℕ, Some, List, length, get_or, vec_len, arith, ap, sym, subst}
+use Rattle.std.proofs.Common.{◌≡◌, ◌<◌, ◌+◌, ◌-◌, ◌^◌, ◌∙◌, inl, inr, ℕ, Option, Some, List, length, get_or, vec_len, arith, ap, sym, subst}
 use Rattle.std.proofs.lemmas.Bool.{cases_eq}
 use Rattle.std.proofs.lemmas.List.{get_or_default}
 use Rattle.values.specs.Values.{Values}
 use Rattle.std.proofs.lemmas.Option.{same_Some, slice_get-get_or, slice_get_within}
+use Rattle.completion.specs.declared.moves.Move.TheVariants.{Modify}
 use Rattle.completion.specs.declared.moves.Turn.{Turn}
 use Rattle.completion.specs.declared.seen.Seen.{Seen}
+use Rattle.completion.specs.Reachable.{HasMore}
 use Rattle.completion.specs.Seen.{Grows, HasNumber, IsTaken, IsVain}
-use Rattle.completion.specs.Situation.{Situation, beginning}
+use Rattle.completion.specs.Situation.{Situation, beginning, moved}
 use Rattle.completion.proofs.Rank.{rank, most_rank}
 use Rattle.completion.proofs.Vain.{all_vain, buried_dead, buried_grows, buried_searched, grows_on, popped, step_comes, step_falls, vain_still}
 use Rattle.completion.proofs.search.+explore.Goals as goal
 use Rattle.completion.proofs.search.+explore.Goals.{in-Vain, in-Row+in_ok-came-in-Row+in-Dead}
+
+-- where a move of a row leads, that of what has its number does
+leads_by : (v : Values) (seen : Seen) (row : Situation) (n : ℕ) (t : Turn) (o : Option Situation) → HasNumber seen row n
+    → moved v row t.step t.core ≡ o → (r : Situation) → HasNumber seen r n → moved v r t.step t.core ≡ o
+leads_by v seen row n t o here is r at =
+    ap (λ (z : Situation). moved v z t.step t.core) (same_Some r row (sym at ∙ here)) ∙ is
+
+-- and where it is vain
+vain_by : (v : Values) (seen : Seen) (row r : Situation) (t : Turn) → row ≡ r → IsVain v seen row t.step t.core
+    → IsVain v seen r t.step t.core
+vain_by v seen row r t is vain = subst (λ (z : Situation). IsVain v seen z t.step t.core) is vain
 
 pub explore-requires : goal.explore-requires
 explore-requires t c =
@@ -19,24 +32,30 @@ explore-requires t c =
     let seen : Seen = c.loop-turn.way.seen in
     let new : Seen = c.reach.new.way.seen in
     let row = c.in_ok-reach.ensures.row c.in-Row.next c.in-Row.is in
+    let here : HasNumber seen c.in_ok-row.row c.args.number =
+    c.loop-turn.invariant.grows.rows c.in_ok-row.row c.args.number c.in_ok-row.ensures in
+    let leads = leads_by v seen c.in_ok-row.row c.args.number _ _ here row.0 in
     let falls : most_rank v + 1 - rank (get_or new.rows.keys c.in-Row.next (beginning v))
     < most_rank v + 1 - rank (get_or old.rows.keys c.args.number (beginning v)) =
     step_falls v old seen new c.args.number c.in-Row.next _ c.requires.searched c.requires.there
-    c.loop-turn.invariant.grows row.0 row.1 in (
+    c.loop-turn.invariant.grows leads row.1 in (
       (let now : most_rank v + 1 - rank (get_or old.rows.keys c.args.number (beginning v)) ≡ t = c.decreases in
           let less : most_rank v + 1 - rank (get_or new.rows.keys c.in-Row.next (beginning v)) < t = omega (arith, falls, now) in
           less),
       (
-        c.requires.square,
+        c.requires.room,
         (
-          c.requires.forced,
+          c.requires.square,
           (
-            c.in_ok-reach.ensures.searched,
+            c.requires.forced,
             (
-              row.1,
-              step_comes v old seen new c.args.number c.in-Row.next _ c.requires.searched c.requires.there
-                  c.loop-turn.invariant.grows row.0 c.args.way.now.turns.items c.loop-turn.way.turns.items
-                  c.reach.new.way.turns.items c.requires.comes c.loop-turn.invariant.turns row.2,
+              c.in_ok-reach.ensures.searched,
+              (
+                row.1,
+                step_comes v old seen new c.args.number c.in-Row.next _ c.requires.searched c.requires.there
+                    c.loop-turn.invariant.grows leads c.args.way.now.turns.items c.loop-turn.way.turns.items
+                    c.reach.new.way.turns.items c.requires.comes c.loop-turn.invariant.turns row.2,
+              ),
             ),
           ),
         ),
@@ -73,7 +92,7 @@ returns-clause-searched t c =
     (λ r number move d.
     let was : HasNumber c.args.way.now.seen r c.args.number =
     here ∙ ap (λ (z : Situation). Some z) (same_Some first r (sym at ∙ number)) in
-    let row : c.row.result.now ≡ r = same_Some c.row.result.now r (sym c.row.ensures ∙ was) in
+    let row : c.in_ok-row.row ≡ r = same_Some c.in_ok-row.row r (sym c.in_ok-row.ensures ∙ was) in
     all_vain v seen r c.in_ok-moves.moves.items
     (λ step e core. subst (λ (z : Situation). IsTaken v z c.in_ok-moves.moves.items step e) row
     (c.in_ok-moves.ensures step e core))
@@ -112,8 +131,9 @@ loop-turn-preserved t c =
     let seen : Seen = c.loop-turn.way.seen in
     let items : List Turn = c.deref-turn-items.result.now in
     let inv = c.loop-turn.invariant in
-    elim c.match-branch-3.branch [
+    elim c.match-branch-4.branch [
       | in-Vain w ↦
+          let first : Turn = record { step = Modify; core = 0 } in
           let vain = c.in_ok-reach.ensures.vain w.in-Vain.is in
           rw w.way'-is (record {
             searched = c.in_ok-reach.ensures.searched;
@@ -124,8 +144,9 @@ loop-turn-preserved t c =
             vain = λ i d r low was. elim (cases_eq i c.loop-turn.turn-index) [
               | inr other ↦ vain_still v seen c.reach.new.way.seen r (get_or items i d).step (get_or items i d).core
                   c.in_ok-reach.ensures.grows (inv.vain i d r (omega (arith, low, other)) was)
-              | inl one ↦ at_last v c.reach.new.way.seen r items i c.loop-turn.turn-index d _ c.loop-turn-test.true one
-                  (vain.1 r (inv.grows.rows r c.args.number was))
+              | inl one ↦ at_last v c.reach.new.way.seen r items i c.loop-turn.turn-index d first c.loop-turn-test.true one
+                  (vain_by v c.reach.new.way.seen c.in_ok-row.row r (get_or items c.loop-turn.turn-index first)
+                  (same_Some c.in_ok-row.row r (sym c.in_ok-row.ensures ∙ was)) vain.1)
             ];
           })
       | in-Row+in_ok-came-in-Row+in-Dead w ↦
@@ -147,7 +168,28 @@ loop-turn-preserved t c =
               | inr other ↦ vain_still v seen new r (get_or items i d).step (get_or items i d).core grows
                   (inv.vain i d r (omega (arith, low, other)) was)
               | inl one ↦ at_last v new r items i c.loop-turn.turn-index d _ c.loop-turn-test.true one
-                  (inr (λ s is. inr (dead.1 s (sym (row.0 r (inv.grows.rows r c.args.number was)) ∙ is))))
+                  (inr (λ s is. inr (dead.1 s (sym (leads_by v seen c.in_ok-row.row c.args.number _ _
+                  (inv.grows.rows c.in_ok-row.row c.args.number c.in_ok-row.ensures) row.0 r
+                  (inv.grows.rows r c.args.number was)) ∙ is))))
             ];
           })
     ]
+
+pub returns-in_default : goal.returns-in_default
+returns-in_default t c =
+    let v = c.args.values.now in
+    let inv = c.loop-turn.invariant in
+    let limit : c.reach.new.way.limit ≡ c.args.way.now.limit = c.reach.ensures.limit ∙ inv.limit in
+    let most : c.reach.new.way.most ≡ c.args.way.now.most = c.reach.ensures.most ∙ inv.most in
+    record {
+      searched = c.in_ok-came-in-Row.ensures.searched;
+      grows = grows_on c.args.way.now.seen c.loop-turn.way.seen c.explore.new.way.seen inv.grows
+          (grows_on c.loop-turn.way.seen c.reach.new.way.seen c.explore.new.way.seen c.in_ok-reach.ensures.grows
+          c.in_ok-came-in-Row.ensures.grows);
+      limit = c.explore.ensures.limit ∙ limit;
+      most = c.explore.ensures.most ∙ most;
+      dead = λ is. absurd (c.in_default.not-Dead is);
+      end = c.in_ok-came-in-Row.ensures.end;
+      stopped = λ is. subst (λ (n : ℕ). n < 2 ^ 64 - 1) most (c.in_ok-came-in-Row.ensures.stopped is);
+      full = λ is. subst (HasMore v) limit (c.in_ok-came-in-Row.ensures.full is);
+    }

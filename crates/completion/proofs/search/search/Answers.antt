@@ -1,8 +1,9 @@
-use Rattle.std.proofs.Common.{◌≡◌, true, false, arith, sym, subst}
+use Rattle.std.proofs.Common.{◌≡◌, ℕ, List, ap, true, false, arith, length, sym, subst}
 use Rattle.completion.specs.Reachable.{Leads, here}
 use Rattle.completion.specs.Search.{IsHopeless}
 use Rattle.completion.specs.Situation.{beginning, IsEnd}
 use Rattle.completion.proofs.DeadRows.{beginning_hopeless}
+use Rattle.completion.proofs.Shapes.{led_fits, led_small}
 use Rattle.completion.proofs.Vain.{added_searched, none_known, none_searched, one_too_many}
 use Rattle.completion.proofs.search.search.Goals as goal
 
@@ -17,17 +18,44 @@ returns-then-is_hopeless c =
 pub returns-then-limit-eq0 : goal.returns-then-limit-eq0
 returns-then-limit-eq0 c =
     let v = c.args.values.now in
-    one_too_many v c.new-2.result (beginning v) (none_searched v c.new-2.result c.new-2.ensures.rows c.new-2.ensures.dead) here
-    (none_known v c.new-2.result c.new-2.ensures.rows c.new-2.ensures.dead (beginning v)) c.args.limit
+    one_too_many v c.in_ok-seen.seen (beginning v)
+    (none_searched v c.in_ok-seen.seen _ _ c.core_count.ensures
+    (ap (λ (l : List ℕ). length l) c.init.ensures) c.in_ok-seen.ensures.rows c.in_ok-seen.ensures.dead)
+    here
+    (none_known v c.in_ok-seen.seen _ _ c.core_count.ensures
+    (ap (λ (l : List ℕ). length l) c.init.ensures) c.in_ok-seen.ensures.rows c.in_ok-seen.ensures.dead
+    (beginning v)) c.args.limit
     (let none : c.args.limit ≡ 0 = c.if-limit-eq0.true in omega (arith, none))
+
+pub add-requires-clause-fits : goal.add-requires-clause-fits
+add-requires-clause-fits c =
+    let v = c.args.values.now in
+    led_fits v c.requires.room c.in_ok-seen.seen c.in_ok-first.first
+    (none_searched v c.in_ok-seen.seen _ _ c.core_count.ensures
+    (ap (λ (l : List ℕ). length l) c.init.ensures) c.in_ok-seen.ensures.rows c.in_ok-seen.ensures.dead)
+    (subst (Leads v (beginning v)) (sym c.in_ok-first.ensures) here)
+
+pub add-requires-clause-new : goal.add-requires-clause-new
+add-requires-clause-new c =
+    none_known c.args.values.now c.in_ok-seen.seen _ _ c.core_count.ensures
+    (ap (λ (l : List ℕ). length l) c.init.ensures) c.in_ok-seen.ensures.rows c.in_ok-seen.ensures.dead
+    c.in_ok-first.first
+
+pub add-requires-clause-small : goal.add-requires-clause-small
+add-requires-clause-small c =
+    let v = c.args.values.now in
+    led_small v c.requires.room c.in_ok-first.first (subst (Leads v (beginning v)) (sym c.in_ok-first.ensures) here)
 
 pub try_all-requires-clause-searched : goal.try_all-requires-clause-searched
 try_all-requires-clause-searched c =
     let v = c.args.values.now in
-    added_searched v c.new-2.result c.in_ok-first.first
-    (none_searched v c.new-2.result c.new-2.ensures.rows c.new-2.ensures.dead)
+    added_searched v c.in_ok-seen.seen c.in_ok-first.first
+    (none_searched v c.in_ok-seen.seen _ _ c.core_count.ensures
+    (ap (λ (l : List ℕ). length l) c.init.ensures) c.in_ok-seen.ensures.rows c.in_ok-seen.ensures.dead)
     (subst (Leads v (beginning v)) (sym c.in_ok-first.ensures) here)
-    (none_known v c.new-2.result c.new-2.ensures.rows c.new-2.ensures.dead c.in_ok-first.first) c.add.new.self
+    (none_known v c.in_ok-seen.seen _ _ c.core_count.ensures
+    (ap (λ (l : List ℕ). length l) c.init.ensures) c.in_ok-seen.ensures.rows c.in_ok-seen.ensures.dead
+    c.in_ok-first.first) c.add.new.self
     (λ end. let yes : c.is_end.result ≡ true = c.is_end.ensures.1 end in
     let no : c.is_end.result ≡ false = c.if-is_end.false in absurd cc) c.in_ok-_first.ensures.rows
     c.in_ok-_first.ensures.dead

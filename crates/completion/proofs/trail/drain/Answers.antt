@@ -1,9 +1,11 @@
 use Rattle.std.proofs.Common.{◌≡◌, ◌+◌, ◌++◌, ◌∷◌, [], ◌∙◌, ℕ, List, Option, Some, None, slice_set, ap, sym, subst}
 use Rattle.std.proofs.lemmas.Option.{same_Some}
 use Rattle.recording.specs.declared.event.Event.{Event}
-use Rattle.completion.specs.declared.moves.Waiting.{Waiting}
+use Rattle.situations.specs.declared.waiting.Waiting.{Waiting}
 use Rattle.completion.specs.Performed.{IsTrail}
-use Rattle.completion.specs.Situation.{beginning, between, drained_by, drained_of, events_of, number_of, oldest, place_of, waiting, with_drained}
+use Rattle.completion.specs.Situation.{beginning, drained_by, drained_of, events_of, number_of, place_of, waiting, with_drained}
+use Rattle.situations.specs.Step.{stored_by_event}
+use Rattle.situations.specs.Waiting.{between, oldest}
 use Rattle.completion.specs.Situation.{written}
 use Rattle.completion.proofs.Moved.{next_store}
 use Rattle.completion.proofs.Rank.{beginning_fit, led_fit}
@@ -21,9 +23,9 @@ returns c s is =
     c.between-waiting.ensures ∙ (ap (λ (l : List Event). between l c.drained-from.result c.place.result) c.events.ensures
     ∙ (ap (λ (n : ℕ). between es n c.place.result) c.drained-from.ensures
     ∙ ap (λ (n : ℕ). between es (drained_of row core) n) c.place.ensures)) in
-    let found : oldest (drained_of row core) (waiting v.cores row core) ≡ Some x =
-    sym (ap (λ (l : List Event). oldest (drained_of row core) l) waits)
-    ∙ (sym (ap (λ (n : ℕ). oldest n c.between-waiting.result.now) c.drained-from.ensures)
+    let found : oldest stored_by_event (drained_of row core) (waiting v.cores row core) ≡ Some x =
+    sym (ap (λ (l : List Event). oldest stored_by_event (drained_of row core) l) waits)
+    ∙ (sym (ap (λ (n : ℕ). oldest stored_by_event n c.between-waiting.result.now) c.drained-from.ensures)
     ∙ (sym c.oldest.ensures.value ∙ c.in-Some.is)) in
     let made : s ≡ written v (with_drained row core (x.place + 1)) core x.place x.address x.value =
     sym (same_Some _ s (sym (ap (drained_by v row core) found) ∙ is)) in

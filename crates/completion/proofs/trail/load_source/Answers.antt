@@ -1,6 +1,8 @@
 use Rattle.std.proofs.Common.{◌≡◌, ◌∙◌, ℕ, List, Some, None, arith, sym, ap}
 use Rattle.recording.specs.declared.event.Event.{Event}
-use Rattle.completion.specs.Situation.{between, drained_of, events_of, youngest}
+use Rattle.completion.specs.Situation.{drained_of, events_of}
+use Rattle.situations.specs.Step.{stored_by_event}
+use Rattle.situations.specs.Waiting.{between, youngest}
 use Rattle.completion.proofs.Lists.{youngest_within}
 use Rattle.completion.proofs.trail.load_source.Goals as goal
 
@@ -11,9 +13,9 @@ event_number-requires-clause-there c =
     let seen : c.between-seen.result.now ≡ between es d c.args.place =
     c.between-seen.ensures ∙ (ap (λ (l : List Event). between l c.drained-from.result c.args.place) c.events.ensures
     ∙ ap (λ (n : ℕ). between es n c.args.place) c.drained-from.ensures) in
-    let is : youngest c.args.address None d (between es d c.args.place) ≡ Some c.in-Some.own =
-    sym (ap (λ (l : List Event). youngest c.args.address None d l) seen)
-    ∙ (sym (ap (λ (n : ℕ). youngest c.args.address None n c.between-seen.result.now) c.drained-from.ensures)
+    let is : youngest stored_by_event c.args.address None d (between es d c.args.place) ≡ Some c.in-Some.own =
+    sym (ap (λ (l : List Event). youngest stored_by_event c.args.address None d l) seen)
+    ∙ (sym (ap (λ (n : ℕ). youngest stored_by_event c.args.address None n c.between-seen.result.now) c.drained-from.ensures)
     ∙ (sym c.youngest.ensures ∙ c.in-Some.is)) in
     omega (
       arith,

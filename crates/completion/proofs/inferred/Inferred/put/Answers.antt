@@ -3,7 +3,7 @@ use Rattle.std.specs.List.{All}
 use Rattle.std.proofs.lemmas.List.Elements.{All-push}
 use Rattle.completion.specs.declared.cause.Link.{Link}
 use Rattle.completion.specs.Inferred.{IsLink}
-use Rattle.completion.proofs.Rows.{put_back}
+use Rattle.completion.proofs.PairRows.{put_back}
 use Rattle.completion.proofs.inferred.Inferred.put.Goals as goal
 
 pub returns-then-not-put : goal.returns-then-not-put
