@@ -84,7 +84,9 @@ fn make<R: Threads + Sync>(
     let one = move |k: usize, slot: &mut Slot|
         requires { first + k < 2 ^ 64 }
         ensures { IfOk slot.exit.now (IsSeededRun program.entry.now runs.entry.now (first + k)) }
-    { *slot = seeded_run(alloc, program, runs, first + k); };
+    {
+        *slot = seeded_run(alloc, program, runs, first + k);
+    };
     for_each_mut(rt, slots, runs.workers, &one);
 }
 

@@ -12,7 +12,10 @@ fn count_in(text: &str, name: &str) -> Option<u64> {
 
 /// Whether a printed text has the counts of a campaign of which more than half of the trials are unfinished.
 fn is_mostly_unfinished(printed: &str) -> bool {
-    match (count_in(printed, "trials "), count_in(printed, "unfinished ")) {
+    match (
+        count_in(printed, "trials "),
+        count_in(printed, "unfinished "),
+    ) {
         (Some(trials), Some(unfinished)) => trials / 2 < unfinished,
         _ => false,
     }
@@ -36,5 +39,7 @@ pub fn advice(words: &[String], printed: &str) -> Option<&'static str> {
     if !is_mostly_unfinished(printed) || asks_for_most(words) {
         return None;
     }
-    Some("tsotest: most trials are unfinished: nearly all come to their end with --attempts 1000000")
+    Some(
+        "tsotest: most trials are unfinished: nearly all come to their end with --attempts 1000000",
+    )
 }

@@ -54,7 +54,7 @@ after_other b bytes n other (others, none, is) = let (part, rest, whole) = some_
   others,
   none,
   rw other (ap (onto_first b) (is ∙ ap (λ (all : List (List ℕ)). take (suc n) all ++ others) whole)
-  ∙ sym (ap (λ (all : List (List ℕ)). take (suc n) (onto_first b all) ++ others) whole)),
+      ∙ sym (ap (λ (all : List (List ℕ)). take (suc n) (onto_first b all) ++ others) whole)),
 )
 
 -- the end of the last of them
