@@ -1,5 +1,5 @@
 -- The options that the words ask for.
-use Rattle.std.specs.Prelude.{◌≡◌, ◌≢◌, ◌≤◌, ◌<◌, ◌+◌, ◌%◌, ◌^◌, ℕ, Bool, List, Option, Some, None, IfSome, Ok, false, ⊤, codes, true}
+use Rattle.std.specs.Prelude.{◌≡◌, ◌≢◌, ◌≤◌, ◌<◌, ◌+◌, ◌%◌, ◌^◌, ℕ, List, Option, Some, None, IfSome, Ok, false, ⊤, codes, true}
 use Rattle.std.specs.Prelude.{IsSomeAnd, if◌then◌else◌, is_some, length, map, option_map, string_bytes, []}
 use Rattle.recording.specs.declared.size.RecordingSize.{RecordingSize}
 use Rattle.recording.specs.declared.size.RecordingSize.TheVariants.{Long, Short}

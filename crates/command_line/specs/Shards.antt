@@ -1,5 +1,5 @@
 -- The trials that are run: all of a campaign, or those of one of its shards.
-use Rattle.std.specs.Prelude.{◌<◌, ◌&&◌, ◌==◌, ◌+◌, ◌%◌, ◌^◌, ℕ, Bool, List, Option, None, Some, codes, if◌then◌else◌}
+use Rattle.std.specs.Prelude.{◌&&◌, ◌==◌, ◌^◌, ℕ, Bool, List, Option, None, Some, codes, if◌then◌else◌}
 use Rattle.std.specs.Prelude.{nat_le, nat_lt, option_map}
 use Rattle.std.specs.List.{after_first, before_first}
 use Rattle.std.specs.Option.{option_map_or}

@@ -2,7 +2,7 @@
 ghost use Rattle.std.specs.Prelude.{◌≡◌, ◌<◌, IfOk, IfSome, Ok, Some, codes, option_map, true};
 ghost use Rattle.std.specs.Result.{result_err};
 ghost use Rattle.clap.specs.Words.{found_of, rows_of};
-ghost use Rattle.command_line.specs.Entries.{AreEntries, HasNumber, machine_fault_of, number_of, show_of};
+ghost use Rattle.command_line.specs.Entries.{AreEntries, HasNumber, machine_fault_of, show_of};
 ghost use Rattle.command_line.specs.Options.{AreValuesAsked, IsNumber, MayBeNumber};
 ghost use Rattle.command_line.specs.Refusals.{fault_refusal, number_refusal, refusal_of, refusal_of_show};
 ghost use Rattle.command_line.specs.Refusals.{shape_asked, sizes_refusal};

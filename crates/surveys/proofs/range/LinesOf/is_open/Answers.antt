@@ -1,4 +1,4 @@
-use Rattle.std.proofs.Common.{◌≡◌, ◌∙◌, ap, not}
+use Rattle.std.proofs.Common.{◌∙◌, ap, not}
 use Rattle.surveys.proofs.Masks.{no_count, unmasked_by}
 use Rattle.surveys.proofs.range.LinesOf.is_open.Goals as goal
 

@@ -1,4 +1,4 @@
-use Rattle.std.proofs.Common.{◌≡◌, ◌∙◌, ◌∷◌, ℕ, List, ap, arith, sym}
+use Rattle.std.proofs.Common.{◌∙◌, ◌∷◌, ℕ, List, ap, arith, sym}
 use Rattle.surveys.proofs.Masks.{unmasked_by}
 use Rattle.surveys.proofs.range.LinesOf.next.Goals as goal
 
