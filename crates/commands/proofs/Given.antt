@@ -1,5 +1,5 @@
 -- What was read of an input whose bytes are known, and what was written.
-use Rattle.std.proofs.Common.{◌≡◌, ◌≤◌, ◌^◌, ◌++◌, ◌∙◌, ℕ, List, Option, Some, None, Result, Ok, Err, IfOk, ap, arith}
+use Rattle.std.proofs.Common.{◌≡◌, ◌≤◌, ◌^◌, ◌++◌, ◌-◌, ◌∙◌, ℕ, List, Option, Some, None, Result, Ok, Err, IfOk, ap, arith}
 use Rattle.std.proofs.Common.{length, length-append}
 use Rattle.std.proofs.Common.{subst, sym}
 use Rattle.std.specs.Prelude.{IfSome, option_map}
@@ -10,6 +10,9 @@ use Rattle.verdicts.specs.declared.outcome.Outcome.{Outcome}
 use Rattle.verdicts.specs.declared.printed.Answer.{Answer}
 use Rattle.inputs.specs.declared.command_error.CommandError.{CommandError}
 use Rattle.surveys.specs.declared.error.SurveyError.TheVariants.{TooLong}
+use Rattle.surveys.specs.declared.range.LineRange.{LineRange}
+use Rattle.surveys.specs.Lines.{lines}
+use Rattle.surveys.specs.Ranges.{lines_in, masked}
 use Rattle.surveys.specs.Surveys.{IsLongRead}
 use Rattle.report.specs.Answer.{IsPut}
 use Rattle.commands.specs.Perform.{Puts}
@@ -50,6 +53,17 @@ pub all_mapped : (f : List ℕ → List ℕ) (known left after : Option (List �
 all_mapped f None left after bytes keeps read end = tt
 all_mapped f (Some xs) left after bytes keeps read end =
     all_given (Some (f xs)) (option_map f left) after bytes (mapped_kept f (Some xs) left keeps) read end
+
+-- the lines of all bytes that are made of those that are known
+pub lines_given : (range : LineRange) (before : ℕ) (count : Option ℕ) (known left after : Option (List ℕ))
+    (bytes : List ℕ) → before ≡ range.first - 1 → count ≡ range.count
+    → ((all : List ℕ) → lines (masked (range.first - 1) range.count all) ≡ lines_in range all) → Keeps known left
+    → Consumes (option_map (masked before count) left) after bytes → IsAtEnd after
+    → IfSome known (λ all. lines bytes ≡ lines_in range all)
+lines_given range before count None left after bytes first number law keeps read end = tt
+lines_given range before count (Some xs) left after bytes first number law keeps read end =
+    ap lines (all_mapped (masked before count) (Some xs) left after bytes keeps read end)
+    ∙ ap (λ b. lines (masked b count xs)) first ∙ ap (λ n. lines (masked (range.first - 1) n xs)) number ∙ law xs
 
 -- of an input of which as many bytes are made, and are too many, 2^64 bytes or more are known, where any are
 pub long_mapped : (f : List ℕ → List ℕ) (known left after : Option (List ℕ))

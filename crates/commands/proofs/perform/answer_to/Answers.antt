@@ -3,9 +3,10 @@ use Rattle.clap.specs.Words.{Row, Text}
 use Rattle.command_line.specs.declared.options.MakeOptions.{MakeOptions}
 use Rattle.command_line.specs.declared.options.MakeOptions.TheVariants.{Cycle, All as Cycles}
 use Rattle.command_line.specs.declared.options.MergeOptions.{MergeOptions}
-use Rattle.command_line.specs.declared.options.Options.TheVariants.{Merge, Trials}
+use Rattle.command_line.specs.declared.options.Options.TheVariants.{Merge, Run, Trials}
+use Rattle.command_line.specs.declared.options.RunOptions.{RunOptions}
 use Rattle.command_line.specs.declared.options.TrialsOptions.{TrialsOptions}
-use Rattle.command_line.specs.Options.{AreOptions, AreTrialsOptions}
+use Rattle.command_line.specs.Options.{AreOptions, AreRunOptions, AreTrialsOptions}
 use Rattle.devices.specs.Host.{HostLog}
 use Rattle.inputs.specs.declared.command_stop.CommandStop.{CommandStop}
 use Rattle.inputs.specs.declared.command_stop.CommandStop.TheVariants.{Failed, Refused}
@@ -21,6 +22,12 @@ trials_rows : (o : TrialsOptions) (command : Option (Text × List Row)) → AreO
 trials_rows o None are = absurd are
 trials_rows o (Some command) are = (command.1, are.3.1)
 
+-- options of run are those of some entries
+run_rows : (o : RunOptions) (command : Option (Text × List Row)) → AreOptions (Run o) command
+    → (rows : List Row) × AreRunOptions o rows
+run_rows o None are = absurd are
+run_rows o (Some command) are = (command.1, are.3.1)
+
 -- options of merge have a name at least
 merge_some : (o : MergeOptions) (command : Option (Text × List Row)) → AreOptions (Merge o) command
     → 0 < length o.files.items
@@ -35,6 +42,10 @@ made_unread (Cycle words) (Err (Refused refusal)) a is = refused_unread refusal 
 made_unread (Cycle words) (Err (Failed error)) a is = failed_unread error a is
 made_unread (Cycles events forbidden) (Err (Refused refusal)) a is = absurd is
 made_unread (Cycles events forbidden) (Err (Failed error)) a is = failed_unread error a is
+
+pub run_command-requires-clause-options : goal.run_command-requires-clause-options
+run_command-requires-clause-options g c κs within = run_rows c.in-Run.run' c.requires.options.0
+    (rw (← c.in-Run.is) c.requires.options.1)
 
 pub trials_command-requires-after_bounds : goal.trials_command-requires-after_bounds
 trials_command-requires-after_bounds g c κs within = trials_rows c.in-Trials.trials c.requires.options.0
