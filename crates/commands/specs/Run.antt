@@ -1,5 +1,5 @@
 -- What a program's run, or a campaign of them, is answered, and why it stops.
-use Rattle.std.specs.Prelude.{◌≡◌, ◌⊎◌, ◌++◌, ℕ, List, Option, Some, None, Ok, if◌then◌else◌, length, option_map, string_bytes, ⊤}
+use Rattle.std.specs.Prelude.{◌≡◌, ◌⊎◌, ℕ, List, Option, Some, None, Ok, if◌then◌else◌, length, option_map, string_bytes, ⊤}
 use Rattle.verdicts.specs.declared.printed.Answer.{Answer}
 use Rattle.answers.specs.Campaign.{IsCampaignAnswer, IsShownAnswer}
 use Rattle.answers.specs.Histogram.{IsLiveHistogramAnswer, IsSeededHistogramAnswer}
@@ -22,7 +22,7 @@ use Rattle.inputs.specs.declared.command_stop.CommandStop.{CommandStop}
 use Rattle.inputs.specs.declared.command_stop.CommandStop.TheVariants.{Refused, Failed}
 use Rattle.inputs.specs.declared.command_error.CommandError.TheVariants.{NoThread, Stranger}
 use Rattle.inputs.specs.Inputs.{AreBytesOf, IsInputError}
-use Rattle.inputs.specs.Named.{IsProgramAt, IsProgramStop, OfProgram}
+use Rattle.inputs.specs.Named.{IsProgramStop, OfProgram}
 use Rattle.inputs.specs.Refusal.{IsReadingStop, step_refusal_name}
 
 -- the answer of a program and the script of this name

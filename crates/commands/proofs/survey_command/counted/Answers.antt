@@ -13,7 +13,7 @@ returns-in-Ok-clause-ok g c =
     let s = c.in-Ok.ensures.whole in
     let new = c.new-lines.ensures in
     let given = lines_given c.range_of.result _ _ (g.H.Host.bytes c.args.host.now c.as_str.result.now) _ _ s.bytes
-        new.before new.count new.lines (rw new.source c.in_ok-input.ensures.given) s.read c.in-Ok.ensures.all in (
+    new.before new.count new.lines (rw new.source c.in_ok-input.ensures.given) s.read c.in-Ok.ensures.all in (
       s.survey.findings,
       record {
         all = lines s.bytes;

@@ -27,8 +27,8 @@ returns-in_ok-line_answer-in-Ok-Some-clause-ok g c =
     let r = rw c.in-Ok-Some.field-0-is at c.in-Ok-Some.ensures.read in
     let new = c.new-lines.ensures in
     let given = lines_given c.range_of.result _ _ (g.H.Host.bytes c.args.host.now c.as_str.result.now) _ _ r.bytes
-        new.before new.count new.lines (rw new.source c.in_ok-input-in-Some.ensures.given) r.read
-        c.in-Ok-Some.ensures.all in rw c.in-Some.is (
+    new.before new.count new.lines (rw new.source c.in_ok-input-in-Some.ensures.given) r.read
+    c.in-Ok-Some.ensures.all in rw c.in-Some.is (
       lines r.bytes,
       rw (sym c.as_str.ensures.value) (subst (λ (range : LineRange). IfSome
           (g.H.Host.bytes c.args.host.now c.as_str.result.now) (λ bytes. lines r.bytes ≡ lines_in range bytes))

@@ -9,6 +9,6 @@ returns-in_ok-headed-in-None-clause-ok g c =
     let counts = c.in_ok-counts-in-None.counts in
     let answer = c.in_ok-headed-in-None.field-0 in
     let headed = subst (λ (header : Option Header). IsHeaded header counts answer) c.campaign_header.ensures
-        c.in_ok-headed-in-None.ensures in
+    c.in_ok-headed-in-None.ensures in
     subst (λ (show : Option ℕ). IsTrials c.args.options.now show answer) (sym c.in-None.is)
     (counts, c.in_ok-counts-in-None.ensures, headed)
