@@ -28,8 +28,8 @@ fn explained_refusal(
         return Ok(None);
     };
     let said = match said.split_once(" N ") {
-        Some((_, rest)) => format!(in alloc; "{counted} {rest}")?,
-        None => String::from_str(alloc, said)?,
+        Some((_, rest)) if !counted.is_empty() => format!(in alloc; "{counted} {rest}")?,
+        _ => String::from_str(alloc, said)?,
     };
     let meaning = match line {
         Some(line) => format!(in alloc; "tsotest: {name}: {said}: {line} ({advice}")?,
