@@ -24,10 +24,11 @@ use Rattle.outcomes.specs.declared.moves.Move.TheVariants.{Exec, Drain}
 use Rattle.situations.specs.declared.waiting.Waiting.{Waiting}
 use Rattle.outcomes.specs.Follow.{Follows, HasComeTo}
 use Rattle.outcomes.specs.Reachable.{outcome_in}
-use Rattle.outcomes.specs.Situation.{Situation, IsEnd, beginning, moved, ops_of, stores_first, waiting}
+use Rattle.outcomes.specs.Situation.{IsEnd, beginning, moved, ops_of, stores_first}
+use Rattle.situations.specs.Situation.{Situation, waiting}
 use Rattle.situations.specs.Step.{stored_by_op}
 use Rattle.situations.specs.Waiting.{oldest}
-use Rattle.outcomes.specs.Situation as row
+use Rattle.situations.specs.Situation as row
 use Rattle.outcomes.specs.Witness.{IsRecordingOf, op_moved}
 use Rattle.outcomes.proofs.Ends.{opening_followed}
 use Rattle.outcomes.proofs.Machine.{move_made}

@@ -13,7 +13,8 @@ use Rattle.indexmap.proofs.CallerLemmas.{Contains-insert_key}
 use Rattle.program.specs.declared.op.Op.{Op}
 use Rattle.program.specs.Parts.{Parts, IsProgram}
 use Rattle.outcomes.specs.Outcome.{Outcome, IsAllowed, AreOutcomes}
-use Rattle.outcomes.specs.Situation.{Situation, moved, beginning, ops_of, place_of, drained_of}
+use Rattle.outcomes.specs.Situation.{moved, beginning, ops_of}
+use Rattle.situations.specs.Situation.{Situation, place_of, drained_of}
 use Rattle.situations.proofs.Ranges.{between_nothing}
 use Rattle.situations.specs.Step.{stored_by_op}
 use Rattle.situations.specs.Waiting.{between, oldest}

@@ -1,5 +1,4 @@
 pub mod Stores
-pub mod Words
 pub mod Grown
 pub mod Ended
 pub mod Explained

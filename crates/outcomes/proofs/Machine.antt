@@ -41,12 +41,13 @@ use Rattle.replay.proofs.OrderlyRuns.{StaysOrderly}
 use Rattle.replay.proofs.StepLists.{StepsLead, is_at, fetch_read, fetch_write, write_made}
 use Rattle.outcomes.specs.declared.moves.Move.{Move}
 use Rattle.outcomes.specs.declared.moves.Move.TheVariants.{Exec, Drain}
-use Rattle.outcomes.specs.Situation.{Situation, stores_first, ops_of, waiting, may_go, executed_next}
+use Rattle.outcomes.specs.Situation.{stores_first, ops_of, may_go, executed_next}
+use Rattle.situations.specs.Situation.{Situation, waiting}
 use Rattle.situations.specs.Step.{stored_by_op}
 use Rattle.situations.specs.Waiting.{between, none_waits, oldest}
 use Rattle.outcomes.specs.Situation.{moved, drained_by}
 use Rattle.outcomes.specs.Reachable.{Leads, here, further}
-use Rattle.outcomes.specs.Situation as row
+use Rattle.situations.specs.Situation as row
 use Rattle.outcomes.specs.Witness.{op_moved}
 use Rattle.situations.specs.declared.waiting.Waiting.{Waiting}
 use Rattle.outcomes.specs.Follow.{entries, Follows}
@@ -258,7 +259,7 @@ module _ (cs : List (List Op)) (init : List ℕ) (capacity : ℕ)
       }
 
       -- the next event has its place among what is read
-      event_there : first_event cs c + place_of s c < length r.reads
+      event_there : first_event cs c + place_of s c < length r.notes
       event_there = omega (arith, f.reads_size, (placed_at 0 cs c (place_of s c) Fence next.there).1)
 
       -- also in the machine

@@ -26,10 +26,11 @@ use Rattle.machine.proofs.Recorded.{complete_recording}
 use Rattle.machine.proofs.Static.{first_within}
 use Rattle.replay.proofs.Kept.{run_keeps}
 use Rattle.outcomes.specs.Outcome.{Outcome, IsAllowed, IsOutcomeOf}
-use Rattle.outcomes.specs.Situation.{Situation, stores_first, ops_of, waiting, beginning}
+use Rattle.outcomes.specs.Situation.{stores_first, ops_of, beginning}
+use Rattle.situations.specs.Situation.{Situation, waiting}
 use Rattle.situations.specs.Waiting.{between}
 use Rattle.outcomes.specs.Situation.{IsOver, IsEnd}
-use Rattle.outcomes.specs.Situation as row
+use Rattle.situations.specs.Situation as row
 use Rattle.outcomes.specs.Reachable.{ComesTo, outcome_in}
 use Rattle.outcomes.specs.Follow.{entries, Follows}
 use Rattle.outcomes.proofs.Stores.{none_oldest, none_stands, store_stands}

@@ -16,7 +16,8 @@ use Rattle.program.specs.Parts.{Parts}
 use Rattle.outcomes.specs.Observed.{shows_all}
 use Rattle.outcomes.specs.Outcome.{Outcome}
 use Rattle.outcomes.specs.Reachable.{AreInOrder, HasEarlier, after_moves}
-use Rattle.outcomes.specs.Situation.{Situation, beginning, moved}
+use Rattle.outcomes.specs.Situation.{beginning, moved}
+use Rattle.situations.specs.Situation.{Situation}
 use Rattle.outcomes.specs.Witness.{first_showing}
 use Rattle.outcomes.proofs.Grown.{moved_past}
 

@@ -12,9 +12,10 @@ use Rattle.machine.specs.Orderly.{placed_op}
 use Rattle.machine.specs.State.{State, place_of, buffer_of, current_copy, first_event, event_of, opening}
 use Rattle.machine.specs.Step.{run}
 use Rattle.replay.specs.Steps.{Replaying}
-use Rattle.outcomes.specs.Situation.{Situation, past_stores, ops_of}
+use Rattle.outcomes.specs.Situation.{past_stores, ops_of}
+use Rattle.situations.specs.Situation.{Situation}
 use Rattle.situations.specs.Waiting.{between}
-use Rattle.outcomes.specs.Situation as row
+use Rattle.situations.specs.Situation as row
 
 -- the entry of an operation with this number, if it is a plain store
 abbrev pub entry_of : ℕ → Op → List Entry
@@ -39,12 +40,12 @@ pub record Follows (p : List (List Op)) (n : ℕ) (s : State) (r : Situation) : 
   pub cores : (c : ℕ) → IsCoreAt (ops_of p c) (first_event p c) (place_of s c) (buffer_of s c) (row.place_of r c)
       (row.drained_of r c)
   pub memory : (a : ℕ) → a < n → slice_index r.memory a ≡ (current_copy s a).0
-  pub reads : (e : ℕ) → slice_index r.reads e ≡ value_read (event_of (placed_op p e).1 (slice_index_or s.reads e (0, None)))
+  pub reads : (e : ℕ) → slice_index r.notes e ≡ value_read (event_of (placed_op p e).1 (slice_index_or s.reads e (0, None)))
   pub blocks : length s.caches.blocks ≡ n
   pub place_size : length r.places ≡ length p
   pub drained_size : length r.drained ≡ length p
   pub memory_size : length r.memory ≡ n
-  pub reads_size : length r.reads ≡ length (placed_from 0 p)
+  pub reads_size : length r.notes ≡ length (placed_from 0 p)
 
 -- a machine of the program without fault, whose buffers have room for all operations of a core, has come to the
 -- situation by the steps that it has taken

@@ -1,8 +1,9 @@
--- A machine with store buffers over one memory, without caches and without events: how far each core is, and values.
+-- A machine with store buffers over one memory, without caches and without events. A note of a situation is what an
+-- event read.
 use Rattle.std.specs.Prelude.{◌≡◌, ◌+◌, ◌%◌, ◌^◌, ◌==◌, ℕ, suc, Bool, true, false, if◌then◌else◌, Option, Some}
 use Rattle.std.specs.Prelude.{None}
 use Rattle.std.specs.Prelude.{List, [], ◌∷◌, map, length, drop, replicate, slice_index, slice_index_or}
-use Rattle.std.specs.Prelude.{is_some, slice_get, slice_set}
+use Rattle.std.specs.Prelude.{is_some, slice_get}
 use Rattle.program.specs.declared.op.Op.{Op}
 use Rattle.program.specs.declared.op.Op.TheVariants.{St, Ld, Swap, Add, Cas}
 use Rattle.program.specs.Parts.{Parts, op_count}
@@ -10,21 +11,10 @@ use Rattle.machine.specs.State.{first_event}
 use Rattle.machine.specs.Orderly.{is_st, op_reads}
 use Rattle.outcomes.specs.declared.moves.Move.{Move}
 use Rattle.outcomes.specs.declared.moves.Move.TheVariants.{Exec, Drain}
+use Rattle.situations.specs.Situation.{Situation, drained_of, place_of, waiting, with_drained, with_note, with_place, with_value}
 use Rattle.situations.specs.Step.{stored_by_op}
-use Rattle.situations.specs.Waiting.{between, forwarded, none_waits, oldest}
+use Rattle.situations.specs.Waiting.{forwarded, none_waits, oldest}
 use Rattle.situations.specs.declared.waiting.Waiting.{Waiting}
-
--- what was reached
-pub record Situation : Type 0 where
-  -- for each core, the place of the first operation that it has not executed: never a plain store, since these are
-  -- executed at once
-  pub places : List ℕ
-  -- for each core, the place after the last store that memory has
-  pub drained : List ℕ
-  -- for each address, its value in memory
-  pub memory : List ℕ
-  -- for each event, the value that it read
-  pub reads : List ℕ
 
 -- an operation reads
 abbrev pub does_read : Op → Bool
@@ -43,39 +33,11 @@ past_stores ops k = k + stores_first (drop k ops)
 abbrev pub ops_of : List (List Op) → ℕ → List Op
 ops_of p c = slice_index_or p c []
 
--- where core c is
-abbrev pub place_of : Situation → ℕ → ℕ
-place_of r c = slice_index r.places c
-
--- up to where memory has the stores of core c
-abbrev pub drained_of : Situation → ℕ → ℕ
-drained_of r c = slice_index r.drained c
-
--- the operations of core c among which its waiting stores are
-abbrev pub waiting : List (List Op) → Situation → ℕ → List Op
-waiting p r c = between (ops_of p c) (drained_of r c) (place_of r c)
-
 -- Effects
-
--- core c goes on to place k
-abbrev pub with_place : Situation → ℕ → ℕ → Situation
-with_place r c k = record r { places = slice_set r.places c k }
 
 -- core c goes on past the operation at place k, and executes the stores after it
 abbrev pub gone_on : List (List Op) → Situation → ℕ → ℕ → Situation
 gone_on p r c k = with_place r c (past_stores (ops_of p c) (k + 1))
-
--- event e reads v
-abbrev pub with_read : Situation → ℕ → ℕ → Situation
-with_read r e v = record r { reads = slice_set r.reads e v }
-
--- address a has the value v
-abbrev pub with_value : Situation → ℕ → ℕ → Situation
-with_value r a v = record r { memory = slice_set r.memory a v }
-
--- memory has the stores of core c before place k
-abbrev pub with_drained : Situation → ℕ → ℕ → Situation
-with_drained r c k = record r { drained = slice_set r.drained c k }
 
 -- Moves
 
@@ -88,11 +50,11 @@ left_by op v = v
 
 -- event e reads address a and writes it at once, as op says
 abbrev pub modified : Situation → ℕ → ℕ → Op → Situation
-modified r e a op = with_value (with_read r e (slice_index r.memory a)) a (left_by op (slice_index r.memory a))
+modified r e a op = with_value (with_note r e (slice_index r.memory a)) a (left_by op (slice_index r.memory a))
 
 -- what op does to values as event e, where these stores wait before it
 abbrev pub performed : Situation → List Op → ℕ → Op → Situation
-performed r ops e (Ld a) = with_read r e (forwarded stored_by_op a (slice_index r.memory a) ops)
+performed r ops e (Ld a) = with_note r e (forwarded stored_by_op a (slice_index r.memory a) ops)
 performed r ops e (Swap a w) = modified r e a (Swap a w)
 performed r ops e (Add a w) = modified r e a (Add a w)
 performed r ops e (Cas a x w) = modified r e a (Cas a x w)
@@ -130,7 +92,7 @@ beginning p = record {
   places = map stores_first p.cores;
   drained = replicate (length p.cores) 0;
   memory = p.init;
-  reads = replicate (op_count p.cores) 0;
+  notes = replicate (op_count p.cores) 0;
 }
 
 -- core c has come to its end

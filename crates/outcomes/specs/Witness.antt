@@ -16,7 +16,8 @@ use Rattle.outcomes.specs.Listed.{AreListed}
 use Rattle.outcomes.specs.Observed.{IsExplained, shows_all}
 use Rattle.outcomes.specs.Outcome.{IsOutcomeOf, Outcome}
 use Rattle.outcomes.specs.Reachable.{HasMore, outcome_in}
-use Rattle.outcomes.specs.Situation.{Situation, IsEnd, drained_of, ops_of, place_of, waiting}
+use Rattle.outcomes.specs.Situation.{IsEnd, ops_of}
+use Rattle.situations.specs.Situation.{Situation, drained_of, place_of, waiting}
 use Rattle.situations.specs.Step.{stored_by_op}
 use Rattle.situations.specs.Waiting.{oldest}
 

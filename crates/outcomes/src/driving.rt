@@ -5,19 +5,19 @@ ghost use Rattle.program.specs.Parts.{IsWithin};
 ghost use Rattle.outcomes.specs.declared.moves.Move.TheVariants.{Exec, Drain};
 ghost use Rattle.outcomes.specs.Follow.{HasComeTo};
 ghost use Rattle.outcomes.specs.Reachable.{after_moves};
-ghost use Rattle.outcomes.specs.Situation.{Situation, beginning, moved};
+ghost use Rattle.outcomes.specs.Situation.{beginning, moved};
+ghost use Rattle.situations.specs.Situation.{Situation};
 ghost use Rattle.outcomes.specs.Witness.{op_moved};
 
 use crate::moves::{Move, Turn};
 use crate::opening::{beginning, op_count};
 use crate::reads::first_event;
-use crate::row::Row;
 use crate::steps::after;
 use common::{CoreId, OutOfMemory};
 use machine::{Fault, Machine, event_of};
 use program::{Op, Program};
 use replay::Replay;
-use situations::{between, oldest};
+use situations::{Row, between, oldest};
 use std::alloc::Global;
 
 /// The operation that a move performs; none where it can't be made.

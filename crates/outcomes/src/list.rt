@@ -2,7 +2,8 @@
 
 ghost use Rattle.std.specs.Prelude.{◌≡◌, ◌<◌, ◌≤◌, ◌↔◌, ℕ, All, Contains, IfNone, IfOk, IfSome, OnOk, IsTrue, length};
 ghost use Rattle.outcomes.specs.Outcome.{AreOutcomes};
-ghost use Rattle.outcomes.specs.Situation.{Situation, IsEnd, IsOver};
+ghost use Rattle.outcomes.specs.Situation.{IsEnd, IsOver};
+ghost use Rattle.situations.specs.Situation.{Situation};
 ghost use Rattle.outcomes.specs.Reachable.{AreReachable, HasMore, outcome_in};
 ghost use Rattle.std.specs.List.{IsDistinct};
 ghost use Rattle.std.specs.List.Sorted.{IsSorted};
@@ -10,13 +11,11 @@ ghost use Rattle.outcomes.specs.Listed.{AreEndings, IsEnding, compared, same_out
 
 use crate::law::every_outcome_is_reached;
 use crate::outcome::Outcome;
-use crate::row::Row;
-use crate::rows::Rows;
 use crate::seen::search;
 use common::{CoreId, OutOfMemory};
 use indexmap::IndexSet;
 use program::Program;
-use situations::{between, oldest};
+use situations::{Row, Rows, between, oldest};
 use std::alloc::Global;
 
 /// Whether a core has come to its end.
@@ -50,7 +49,7 @@ pub(crate) fn is_end(program: &Program, row: &Row) -> bool
 fn add(alloc: Global, row: &Row, found: &mut IndexSet<Outcome>) -> Result<(), OutOfMemory>
     ensures { OnOk result (found.new.keys ≡ with_outcome found.old.keys (outcome_in row.now)) }
 {
-    let reads = Vec::from_slice(alloc, row.reads())?;
+    let reads = Vec::from_slice(alloc, row.notes())?;
     let memory = Vec::from_slice(alloc, row.memory())?;
     let _new = found.insert(Outcome::new(reads, memory))?;
     Ok(())

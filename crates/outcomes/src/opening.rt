@@ -6,9 +6,9 @@ ghost use Rattle.program.specs.Parts.{op_count};
 ghost use Rattle.outcomes.specs.Situation.{beginning, stores_first};
 
 use crate::ops::stores_first;
-use crate::row::Row;
 use common::OutOfMemory;
 use program::{Ops, Program};
+use situations::Row;
 use std::alloc::Global;
 
 /// How many operations there are.
@@ -41,11 +41,7 @@ pub fn beginning(alloc: Global, program: &Program) -> Result<Row, OutOfMemory>
     ensures { IfOk result (λ r. r ≡ beginning program.now) }
 {
     program.sound();
-    let mut words = places(alloc, program.lists())?;
-    let drained = vec![in alloc; 0u32; program.cores()]?;
-    words.extend_from_slice(&drained)?;
-    words.extend_from_slice(program.init())?;
-    let reads = vec![in alloc; 0u32; op_count(program.lists())]?;
-    words.extend_from_slice(&reads)?;
-    Ok(Row::new(words, program.cores(), program.init().len()))
+    let places = places(alloc, program.lists())?;
+    let reads = op_count(program.lists());
+    Row::begin(alloc, &places, program.init(), reads, 0)
 }

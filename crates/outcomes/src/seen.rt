@@ -3,17 +3,17 @@
 ghost use Rattle.std.specs.Prelude.{◌≡◌, ◌<◌, ◌≤◌, ℕ, All, Contains, IfOk, IfNone, IfSome, OnOk, Some};
 ghost use Rattle.std.specs.Prelude.{length, slice_get};
 ghost use Rattle.outcomes.specs.declared.moves.Move.{Move};
-ghost use Rattle.outcomes.specs.Situation.{Situation, beginning, moved};
-ghost use Rattle.outcomes.specs.Row.{FitsAmong, with_next};
-ghost use Rattle.outcomes.specs.Reachable.{AreInOrder, AreReachable, HasMore, HasMove, HasNext, HasPlace, Grows, Leads};
+ghost use Rattle.outcomes.specs.Situation.{beginning, moved};
+ghost use Rattle.situations.specs.Situation.{Situation};
+ghost use Rattle.situations.specs.Row.{FitsAmong};
+ghost use Rattle.outcomes.specs.Reachable.{AreInOrder, AreReachable, HasMore, HasMove, HasNext, HasPlace, Grows, Leads, with_next};
 
 use crate::moves::{Move, Turn};
 use crate::opening::beginning;
-use crate::row::Row;
-use crate::rows::Rows;
 use crate::steps::after;
 use common::OutOfMemory;
 use program::Program;
+use situations::{Row, Rows};
 use std::alloc::Global;
 
 /// Adds a row, if there is one, unless it is there.
@@ -100,7 +100,13 @@ pub fn search(alloc: Global, program: &Program, limit: usize) -> Result<Option<R
 {
     program.sound();
     let first = beginning(alloc, program)?;
-    let mut seen = Rows::of(alloc, &first)?;
+    let mut seen = Rows::new(
+        alloc,
+        first.cores(),
+        first.memory().len(),
+        first.notes().len(),
+    )?;
+    seen.insert(alloc, &first)?;
     for at in 0..limit {
         if at == seen.len() {
             return Ok(Some(seen));

@@ -4,15 +4,15 @@ ghost use Rattle.std.specs.Prelude.{◌≡◌, ◌+◌, ◌<◌, ◌≤◌, IfOk
 ghost use Rattle.std.specs.Prelude.{slice_index_or, []};
 ghost use Rattle.outcomes.specs.declared.moves.Move.TheVariants.{Exec, Drain};
 ghost use Rattle.outcomes.specs.Situation.{beginning, executed_next, left_by, may_go, modified, moved, ops_of};
-ghost use Rattle.outcomes.specs.Situation.{performed, place_of};
+ghost use Rattle.outcomes.specs.Situation.{performed};
+ghost use Rattle.situations.specs.Situation.{place_of};
 
 use crate::moves::Move;
 use crate::ops::past_stores;
 use crate::reads::first_event;
-use crate::row::Row;
 use common::{Addr, CoreId, OutOfMemory};
 use program::{Op, Program};
-use situations::{between, forwarded, none_waits, oldest};
+use situations::{Row, between, forwarded, none_waits, oldest};
 use std::alloc::Global;
 
 /// The value that a read-modify-write leaves where it reads this one.
@@ -48,7 +48,7 @@ fn modify(row: &mut Row, event: usize, address: Addr, op: Op)
     ensures { row.new ≡ modified row.old event address op }
 {
     let value = row.value(address as usize);
-    row.read(event, value);
+    row.note(event, value);
     row.write(address as usize, left_by(op, value));
 }
 
@@ -60,7 +60,7 @@ fn perform(row: &mut Row, waiting: &[Op], event: usize, op: Op)
         Op::St(_, _) => {}
         Op::Ld(address) => {
             let value = forwarded(address, row.value(address as usize), waiting);
-            row.read(event, value);
+            row.note(event, value);
         }
         Op::Fence => {}
         Op::Swap(address, _) => modify(row, event, address, op),

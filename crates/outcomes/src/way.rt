@@ -6,11 +6,10 @@ ghost use Rattle.outcomes.specs.Situation.{beginning, moved};
 ghost use Rattle.outcomes.specs.Reachable.{AreInOrder, after_moves};
 
 use crate::moves::{Move, Turn};
-use crate::row::Row;
-use crate::rows::Rows;
 use crate::steps::after;
 use common::OutOfMemory;
 use program::Program;
+use situations::{Row, Rows};
 use std::alloc::Global;
 
 /// Whether a move leads from one row to another.

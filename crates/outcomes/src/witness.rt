@@ -10,13 +10,12 @@ use crate::driving::drive;
 use crate::list::{is_end, listed};
 use crate::observed::{Observation, shows_all};
 use crate::outcome::Outcome;
-use crate::row::Row;
-use crate::rows::Rows;
 use crate::seen::search;
 use crate::way::way_to;
 use common::OutOfMemory;
 use program::Program;
 use recording::Recording;
+use situations::{Row, Rows};
 use std::alloc::Global;
 
 /// What is known of executions with some values.
@@ -46,7 +45,7 @@ fn first_showing<'a>(outcomes: &'a [Outcome], seen: &[Observation]) -> Option<&'
 fn comes_to(program: &Program, row: &Row, outcome: &Outcome) -> bool
     ensures { IsTrue result ↔ (IsEnd program.now.cores row.now × (outcome_in row.now ≡ outcome.now)) }
 {
-    row.reads() == outcome.reads() && row.memory() == outcome.memory() && is_end(program, row)
+    row.notes() == outcome.reads() && row.memory() == outcome.memory() && is_end(program, row)
 }
 
 /// The index of a row at its end with this outcome, where there is one.

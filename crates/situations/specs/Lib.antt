@@ -3,3 +3,5 @@ pub mod Packed
 pub mod Chains
 pub mod Step
 pub mod Waiting
+pub mod Situation
+pub mod Row

@@ -7,7 +7,7 @@ use Rattle.replay.specs.Steps.{Replaying}
 use Rattle.outcomes.specs.declared.moves.Move.TheVariants.{Exec}
 use Rattle.outcomes.specs.Follow.{HasComeTo}
 use Rattle.outcomes.specs.Reachable.{after_moves}
-use Rattle.outcomes.specs.Situation.{Situation}
+use Rattle.situations.specs.Situation.{Situation}
 use Rattle.outcomes.proofs.Driven.{begun}
 use Rattle.outcomes.proofs.Ways.{next_made}
 use Rattle.outcomes.proofs.driving.drive.Goals as goal

@@ -4,7 +4,7 @@ use Rattle.program.specs.Parts.{Parts}
 use Rattle.recording.specs.declared.event.Event.{Event}
 use Rattle.machine.specs.State.{first_event}
 use Rattle.replay.specs.Steps.{Replaying, perform, with_steps}
-use Rattle.outcomes.specs.Situation.{place_of}
+use Rattle.situations.specs.Situation.{place_of}
 use Rattle.outcomes.specs.Witness.{op_moved}
 use Rattle.outcomes.proofs.Driven.{come_moved, event_within, op_within, place_few}
 use Rattle.outcomes.proofs.Grown.{on_ok}

@@ -1,13 +1,17 @@
-use Rattle.std.proofs.Common.{◌≡◌, ◌<◌, List, [], ◌∷◌, length, arith}
-use Rattle.outcomes.specs.Situation.{Situation}
+use Rattle.std.proofs.Common.{◌≡◌, ◌<◌, ◌∙◌, List, [], ◌∷◌, ap, length, arith}
+use Rattle.indexmap.specs.IndexSet.{insert_key}
+use Rattle.situations.specs.Row.{SeenRows, same_situation}
+use Rattle.situations.specs.Situation.{Situation}
 use Rattle.outcomes.proofs.Grown.{first_reached, first_order, one_more, reachable, grown_length}
 use Rattle.outcomes.proofs.seen.search.Goals as goal
 
 pub loop-at-init : goal.loop-at-init
 loop-at-init c =
     let row : Situation = c.in_ok-first.first in
-    let keys : List Situation = c.in_ok-seen.seen.keys in
-    let one : keys ≡ row ∷ [] = c.in_ok-seen.ensures in
+    let keys : List Situation = c.insert.new.self.keys in
+    let one : keys ≡ row ∷ [] =
+    ap (λ (z : SeenRows). z.keys) c.in_ok-insert.ensures
+    ∙ ap (λ (z : SeenRows). insert_key same_situation z.keys row) c.in_ok-seen.ensures in
     record {
       reached = first_reached c.args.program.now keys row one c.in_ok-first.ensures;
       order = first_order c.args.program.now keys row one c.in_ok-first.ensures;

@@ -1,8 +1,9 @@
 use Rattle.std.proofs.Common.{◌∙◌, List, sym, ap, subst}
 use Rattle.std.specs.List.{All, Contains}
 use Rattle.std.proofs.lemmas.Option.{get_or_from_slice_get, slice_get_within}
-use Rattle.outcomes.specs.Row.{SeenRows}
-use Rattle.outcomes.specs.Situation.{Situation, beginning}
+use Rattle.situations.specs.Row.{SeenRows}
+use Rattle.outcomes.specs.Situation.{beginning}
+use Rattle.situations.specs.Situation.{Situation}
 use Rattle.outcomes.specs.Reachable.{AreInOrder, Leads, further}
 use Rattle.outcomes.proofs.Grown.{on_ok, all_next, next_there, order_next}
 use Rattle.outcomes.proofs.SeenRows.{next_fits}

@@ -1,5 +1,5 @@
 use Rattle.std.proofs.Common.{List, arith}
-use Rattle.outcomes.specs.Situation.{Situation}
+use Rattle.situations.specs.Situation.{Situation}
 use Rattle.outcomes.proofs.Grown.{all_cores, grows_twice, last_core, place_grown}
 use Rattle.outcomes.proofs.SeenRows.{fits_still, rest_twice}
 use Rattle.outcomes.proofs.seen.take_all.Goals as goal

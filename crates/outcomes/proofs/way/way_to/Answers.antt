@@ -2,7 +2,8 @@ use Rattle.std.proofs.Common.{◌≡◌, ◌≢◌, ◌∙◌, ◌-◌, ℕ, Opt
 use Rattle.outcomes.specs.declared.moves.Move.{Move}
 use Rattle.outcomes.specs.declared.moves.Turn.{Turn}
 use Rattle.outcomes.specs.Reachable.{after_moves}
-use Rattle.outcomes.specs.Situation.{Situation, beginning, moved}
+use Rattle.outcomes.specs.Situation.{beginning, moved}
+use Rattle.situations.specs.Situation.{Situation}
 use Rattle.outcomes.proofs.Ways.{back_begun, back_done, back_found, back_none}
 use Rattle.outcomes.proofs.way.way_to.Goals as goal
 use Rattle.outcomes.proofs.way.way_to.Goals.{in-Some+in_ok-push-in-Some, in-None}

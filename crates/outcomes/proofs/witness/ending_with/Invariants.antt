@@ -1,6 +1,7 @@
 use Rattle.std.proofs.Common.{◌≡◌, ◌<◌, ℕ, Some, slice_get}
 use Rattle.outcomes.specs.Reachable.{outcome_in}
-use Rattle.outcomes.specs.Situation.{Situation, IsEnd}
+use Rattle.outcomes.specs.Situation.{IsEnd}
+use Rattle.situations.specs.Situation.{Situation}
 use Rattle.outcomes.proofs.witness.ending_with.Given as goal
 
 abbrev pub invariant-loop-at : goal.invariant-loop-at

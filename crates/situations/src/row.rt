@@ -1,16 +1,17 @@
 //! Situations, as rows of numbers.
 
+ghost use Rattle.std.specs.Prelude.{◌≡◌, ◌+◌, ◌^◌, ◌<◌, ◌++◌, IfOk, OnOk, length, replicate};
+
+use crate::memory::value_at;
 use common::OutOfMemory;
-use situations::value_at;
 use std::alloc::Global;
 use std::marker::Model;
 
-/// How far each core of a machine with store buffers over one memory is, and values: what a search
-/// knows again.
+/// How far each core of a machine with store buffers over one memory is, and memory: what a search knows again.
 #[derive(Drop)]
 pub struct Row {
     /// For each core its place, then for each the place up to which memory has its stores; then the values of the
-    /// addresses, and those that events read.
+    /// addresses, and the notes.
     words: Vec<u32>,
     /// How many cores there are.
     cores: usize,
@@ -20,8 +21,8 @@ pub struct Row {
 
 impl Model for Row {
     ghost use Rattle.std.specs.Prelude.{◌+◌, ◌≤◌, length};
-    ghost use Rattle.outcomes.specs.Row.{row_of};
-    ghost use Rattle.outcomes.specs.Situation.{Situation};
+    ghost use Rattle.situations.specs.Row.{row_of};
+    ghost use Rattle.situations.specs.Situation.{Situation};
 
     ghost Value = { Situation };
 
@@ -33,7 +34,7 @@ impl Model for Row {
 impl PartialEq for Row {
     ghost use Rattle.std.specs.Cmp.Rules.{comparing};
     ghost use Rattle.std.proofs.Common.{rules};
-    ghost use Rattle.outcomes.specs.Row.{same_situation};
+    ghost use Rattle.situations.specs.Row.{same_situation};
 
     ghost eq = { same_situation };
 
@@ -43,15 +44,23 @@ impl PartialEq for Row {
         self.places() == other.places()
             && self.drains() == other.drains()
             && self.memory() == other.memory()
-            && self.reads() == other.reads()
+            && self.notes() == other.notes()
     }
+}
+
+/// Adds a word so many times.
+fn add_times(words: &mut Vec<u32>, count: usize, word: u32) -> Result<(), OutOfMemory>
+    ensures { OnOk result (words.new.items ≡ words.old.items ++ replicate count word) }
+{
+    let old = words.len();
+    words.resize(old.saturating_add(count), word)?;
+    Ok(())
 }
 
 impl Row {
     ghost use Rattle.std.specs.Prelude.{◌≡◌, ◌+◌, ◌^◌, ◌<◌, ◌≤◌, IfOk, length, slice_index};
-    ghost use Rattle.outcomes.specs.Row.{row_of};
-    ghost use Rattle.outcomes.specs.Situation.{place_of, drained_of, with_read, with_value, with_drained};
-    ghost use Rattle.outcomes.specs.Situation.{with_place};
+    ghost use Rattle.situations.specs.Row.{begun, row_of};
+    ghost use Rattle.situations.specs.Situation.{place_of, drained_of, with_note, with_value, with_drained, with_place};
 
     /// The row of these words.
     pub(crate) fn new(words: Vec<u32>, cores: usize, addresses: usize) -> Row
@@ -65,8 +74,26 @@ impl Row {
         }
     }
 
+    /// The row of cores that are at these places, with these values in memory, which has no store yet, and each of so many
+    /// notes this. Fails only if out of memory.
+    pub fn begin(
+        alloc: Global,
+        places: &[u32],
+        memory: &[u32],
+        notes: usize,
+        note: u32,
+    ) -> Result<Row, OutOfMemory>
+        ensures { IfOk result (λ r. r ≡ begun places.now memory.now notes note) }
+    {
+        let mut words = Vec::from_slice(alloc, places)?;
+        add_times(&mut words, places.len(), 0)?;
+        words.extend_from_slice(memory)?;
+        add_times(&mut words, notes, note)?;
+        Ok(Row::new(words, places.len(), memory.len()))
+    }
+
     /// A copy of the row. Fails only if out of memory.
-    pub(crate) fn copy(&self, alloc: Global) -> Result<Row, OutOfMemory>
+    pub fn copy(&self, alloc: Global) -> Result<Row, OutOfMemory>
         ensures { IfOk result (λ r. r ≡ self.now) }
     {
         let words = Vec::from_slice(alloc, &self.words)?;
@@ -77,23 +104,23 @@ impl Row {
         })
     }
 
-    /// All words of the row: its places and drains, then the values of the addresses, and those that events read.
+    /// All words of the row: its places and drains, then the values of the addresses, and the notes.
     pub(crate) fn words(&self) -> &[u32]
         ensures row { row_of (length self.now.places) (length self.now.memory) result.now ≡ self.now }
         ensures many { length result.now
-            ≡ length self.now.places + length self.now.places + length self.now.memory + length self.now.reads }
+            ≡ length self.now.places + length self.now.places + length self.now.memory + length self.now.notes }
     {
         &self.words
     }
 
     /// How many cores there are.
-    pub(crate) fn cores(&self) -> usize
+    pub fn cores(&self) -> usize
         ensures { result ≡ length self.now.places }
     {
         self.cores
     }
 
-    /// For each core the place of the first operation that it has not executed.
+    /// For each core the place of the first of its steps that it has not executed.
     fn places(&self) -> &[u32]
         ensures { result.now ≡ self.now.places }
     {
@@ -108,16 +135,18 @@ impl Row {
         &rest[..self.cores]
     }
 
-    /// The place of the first operation that a core has not executed.
+    /// The place of the first step that a core has not executed.
     pub fn place(&self, core: usize) -> usize
-        ensures { result ≡ place_of self.now core }
+        ensures value { result ≡ place_of self.now core }
+        ensures few { result < 2 ^ 32 }
     {
         value_at(self.places(), core) as usize
     }
 
     /// The place after the last store of a core that memory has.
     pub fn drained(&self, core: usize) -> usize
-        ensures { result ≡ drained_of self.now core }
+        ensures value { result ≡ drained_of self.now core }
+        ensures few { result < 2 ^ 32 }
     {
         value_at(self.drains(), core) as usize
     }
@@ -137,15 +166,15 @@ impl Row {
         &rest[..self.addresses]
     }
 
-    /// The values that events read.
-    pub fn reads(&self) -> &[u32]
-        ensures { result.now ≡ self.now.reads }
+    /// What else is told apart.
+    pub fn notes(&self) -> &[u32]
+        ensures { result.now ≡ self.now.notes }
     {
         &self.words[self.cores + self.cores + self.addresses..]
     }
 
     /// A core goes on to a place.
-    pub(crate) fn go_on(&mut self, core: usize, place: usize)
+    pub fn go_on(&mut self, core: usize, place: usize)
         requires { place < 2 ^ 32 }
         ensures { self.new ≡ with_place self.old core place }
     {
@@ -155,7 +184,7 @@ impl Row {
     }
 
     /// Memory has the stores of a core before a place.
-    pub(crate) fn drain(&mut self, core: usize, place: usize)
+    pub fn drain(&mut self, core: usize, place: usize)
         requires { place < 2 ^ 32 }
         ensures { self.new ≡ with_drained self.old core place }
     {
@@ -165,23 +194,23 @@ impl Row {
         }
     }
 
-    /// An event reads a value.
-    pub(crate) fn read(&mut self, event: usize, value: u32)
-        ensures { self.new ≡ with_read self.old event value }
-    {
-        let first = self.cores + self.cores + self.addresses;
-        if event < self.words.len() - first {
-            self.words[first + event] = value;
-        }
-    }
-
     /// An address has a value.
-    pub(crate) fn write(&mut self, address: usize, value: u32)
+    pub fn write(&mut self, address: usize, value: u32)
         ensures { self.new ≡ with_value self.old address value }
     {
         if address < self.addresses {
             let at = self.cores + self.cores + address;
             self.words[at] = value;
+        }
+    }
+
+    /// Puts a note at an index; nothing past the end.
+    pub fn note(&mut self, index: usize, note: u32)
+        ensures { self.new ≡ with_note self.old index note }
+    {
+        let first = self.cores + self.cores + self.addresses;
+        if index < self.words.len() - first {
+            self.words[first + index] = note;
         }
     }
 }

@@ -3,8 +3,8 @@ use Rattle.std.proofs.Common.{◌≡◌, ◌<◌, ◌+◌, ◌∙◌, ℕ, List,
 use Rattle.std.specs.Prelude.{slice_set}
 use Rattle.std.proofs.lemmas.List.{drop-set-add, drop-set-lt, take-set-le}
 use Rattle.std.proofs.Math.Seq.{take-set-lt}
-use Rattle.outcomes.specs.Row.{row_of}
-use Rattle.outcomes.specs.Situation.{with_drained, with_place, with_read, with_value}
+use Rattle.situations.specs.Row.{row_of}
+use Rattle.situations.specs.Situation.{with_drained, with_note, with_place, with_value}
 
 module _ (c a : ℕ) (ws : List ℕ) (i v : ℕ) where
   -- where core i is
@@ -14,9 +14,9 @@ module _ (c a : ℕ) (ws : List ℕ) (i v : ℕ) where
       let drained : take c (drop c (slice_set ws i v)) ≡ take c (drop c ws) = ap (take c) (drop-set-lt c ws i v low) in
       let memory : take a (drop (c + c) (slice_set ws i v)) ≡ take a (drop (c + c) ws) =
       ap (take a) (drop-set-lt (c + c) ws i v (omega (arith, low))) in
-      let reads : drop (c + c + a) (slice_set ws i v) ≡ drop (c + c + a) ws =
+      let notes : drop (c + c + a) (slice_set ws i v) ≡ drop (c + c + a) ws =
       drop-set-lt (c + c + a) ws i v (omega (arith, low)) in
-      λ k. record { places = places k; drained = drained k; memory = memory k; reads = reads k }
+      λ k. record { places = places k; drained = drained k; memory = memory k; notes = notes k }
 
   -- up to where memory has its stores
   pub drained_set : i < c → row_of c a (slice_set ws (c + i) v) ≡ with_drained (row_of c a ws) i v
@@ -26,9 +26,9 @@ module _ (c a : ℕ) (ws : List ℕ) (i v : ℕ) where
       ap (take c) (drop-set-add c ws i v) ∙ take-set-lt c (drop c ws) i v low in
       let memory : take a (drop (c + c) (slice_set ws (c + i) v)) ≡ take a (drop (c + c) ws) =
       ap (take a) (drop-set-lt (c + c) ws (c + i) v (omega (arith, low))) in
-      let reads : drop (c + c + a) (slice_set ws (c + i) v) ≡ drop (c + c + a) ws =
+      let notes : drop (c + c + a) (slice_set ws (c + i) v) ≡ drop (c + c + a) ws =
       drop-set-lt (c + c + a) ws (c + i) v (omega (arith, low)) in
-      λ k. record { places = places k; drained = drained k; memory = memory k; reads = reads k }
+      λ k. record { places = places k; drained = drained k; memory = memory k; notes = notes k }
 
   -- the value of address i
   pub value_set : i < a → row_of c a (slice_set ws (c + c + i) v) ≡ with_value (row_of c a ws) i v
@@ -40,13 +40,13 @@ module _ (c a : ℕ) (ws : List ℕ) (i v : ℕ) where
       ∙ (ap (take c) (drop-set-add c ws (c + i) v) ∙ take-set-le c (drop c ws) (c + i) v (omega arith)) in
       let memory : take a (drop (c + c) (slice_set ws (c + c + i) v)) ≡ slice_set (take a (drop (c + c) ws)) i v =
       ap (take a) (drop-set-add (c + c) ws i v) ∙ take-set-lt a (drop (c + c) ws) i v low in
-      let reads : drop (c + c + a) (slice_set ws (c + c + i) v) ≡ drop (c + c + a) ws =
+      let notes : drop (c + c + a) (slice_set ws (c + c + i) v) ≡ drop (c + c + a) ws =
       drop-set-lt (c + c + a) ws (c + c + i) v (omega (arith, low)) in
-      λ k. record { places = places k; drained = drained k; memory = memory k; reads = reads k }
+      λ k. record { places = places k; drained = drained k; memory = memory k; notes = notes k }
 
-  -- what event i read
-  pub read_set : row_of c a (slice_set ws (c + c + a + i) v) ≡ with_read (row_of c a ws) i v
-  read_set =
+  -- note i
+  pub note_set : row_of c a (slice_set ws (c + c + a + i) v) ≡ with_note (row_of c a ws) i v
+  note_set =
       let first : c + c + a + i ≡ c + (c + a + i) = omega arith in
       let second : c + c + a + i ≡ c + c + (a + i) = omega arith in
       let places : take c (slice_set ws (c + c + a + i) v) ≡ take c ws =
@@ -58,6 +58,6 @@ module _ (c a : ℕ) (ws : List ℕ) (i v : ℕ) where
       ap (λ (n : ℕ). take a (drop (c + c) (slice_set ws n v))) second
       ∙ (ap (take a) (drop-set-add (c + c) ws (a + i) v)
       ∙ take-set-le a (drop (c + c) ws) (a + i) v (omega arith)) in
-      let reads : drop (c + c + a) (slice_set ws (c + c + a + i) v) ≡ slice_set (drop (c + c + a) ws) i v =
+      let notes : drop (c + c + a) (slice_set ws (c + c + a + i) v) ≡ slice_set (drop (c + c + a) ws) i v =
       drop-set-add (c + c + a) ws i v in
-      λ k. record { places = places k; drained = drained k; memory = memory k; reads = reads k }
+      λ k. record { places = places k; drained = drained k; memory = memory k; notes = notes k }

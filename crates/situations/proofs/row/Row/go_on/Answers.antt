@@ -1,5 +1,5 @@
-use Rattle.outcomes.proofs.Words.{place_set}
-use Rattle.outcomes.proofs.row.Row.go_on.Goals as goal
+use Rattle.situations.proofs.RowWords.{place_set}
+use Rattle.situations.proofs.row.Row.go_on.Goals as goal
 
 pub returns-then-core-self : goal.returns-then-core-self
 returns-then-core-self c = rw (← c.self.view_is)

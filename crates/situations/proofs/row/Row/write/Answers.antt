@@ -1,5 +1,5 @@
-use Rattle.outcomes.proofs.Words.{value_set}
-use Rattle.outcomes.proofs.row.Row.write.Goals as goal
+use Rattle.situations.proofs.RowWords.{value_set}
+use Rattle.situations.proofs.row.Row.write.Goals as goal
 
 pub returns-then-address-self : goal.returns-then-address-self
 returns-then-address-self c = rw (← c.self.view_is)
