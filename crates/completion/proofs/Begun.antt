@@ -9,10 +9,12 @@ use Rattle.recording.specs.OrderLaws.{times_nil}
 use Rattle.values.specs.Final.{value_by}
 use Rattle.values.specs.Refused.{events_alone}
 use Rattle.values.specs.Values.{Values}
+use Rattle.completion.specs.Situation.{memory_of}
 use Rattle.completion.specs.declared.moves.Turn.{Turn}
 use Rattle.completion.specs.Performed.{IsTrail, Settles, last_of, writers}
 use Rattle.completion.specs.Reachable.{after_moves}
-use Rattle.completion.specs.Situation.{Situation, beginning, drained_of, mark, marked, moved, number_of, place_of}
+use Rattle.completion.specs.Situation.{beginning, mark, marked, moved, number_of}
+use Rattle.situations.specs.Situation.{Situation, drained_of, place_of}
 use Rattle.completion.proofs.Places.{blank, blank_fit, zero_at}
 use Rattle.completion.proofs.Turned.{settles_from}
 
@@ -31,9 +33,9 @@ module _ (v : Values) (none first : Situation) (empty : none.places ≡ []) (is 
   })
 
   pub begun_trail : (order : List ℕ) (sources : List (Option ℕ)) → order ≡ []
-      → length sources ≡ event_count (events_alone v) → IsTrail v order sources (place_of none) (drained_of first) first.memory
+      → length sources ≡ event_count (events_alone v) → IsTrail v order sources (place_of none) (drained_of first) (memory_of first)
   begun_trail order sources no_order count =
-      subst (λ (z : Situation). IsTrail v order sources (place_of none) (drained_of z) z.memory) (sym is) (record {
+      subst (λ (z : Situation). IsTrail v order sources (place_of none) (drained_of z) (memory_of z)) (sym is) (record {
         performed = record {
           size = count;
           events = λ e there. absurd (omega (arith, nothing e, there));

@@ -18,9 +18,11 @@ use Rattle.values.specs.Final.{final_value, value_by}
 use Rattle.values.specs.FinalLaws.{final_past}
 use Rattle.values.specs.Refused.{events_alone}
 use Rattle.values.specs.Values.{IsCompletion, Values, known_final, known_source, unsourced}
+use Rattle.completion.specs.Situation.{memory_of}
 use Rattle.completion.specs.Performed.{HaveRoom, IsLastInMemory, IsOwnStore, IsSourceAfter, IsTrail, last_of, until, writers}
 use Rattle.completion.specs.Search.{event_of}
-use Rattle.completion.specs.Situation.{Situation, drained_of, events_of, number_of, place_of, waiting, IsEnd}
+use Rattle.completion.specs.Situation.{events_of, number_of, IsEnd}
+use Rattle.situations.specs.Situation.{Situation, drained_of, place_of, waiting}
 use Rattle.situations.specs.Step.{stored_by_event}
 use Rattle.situations.specs.Waiting.{oldest}
 use Rattle.completion.proofs.Alone.{count_with, order_with, reads_with, value_with, with_kept, with_order}
@@ -55,7 +57,7 @@ pub record IsMade (v : Values) (order : List ℕ) (sources : List (Option ℕ)) 
   pub writes : (a : ℕ) → a < length v.initial → write_list x a ≡ writers v a order
 
 module _ (v : Values) (order : List ℕ) (sources : List (Option ℕ)) (r : Situation)
-    (h : IsTrail v order sources (place_of r) (drained_of r) r.memory) (end : IsEnd v r) (room : HaveRoom v)
+    (h : IsTrail v order sources (place_of r) (drained_of r) (memory_of r)) (end : IsEnd v r) (room : HaveRoom v)
     (x : Execution) (made : IsMade v order sources x) where
   -- all events are performed
   all_in : (e : ℕ) → e < event_count (events_alone v) → 0 < times order e
@@ -303,7 +305,7 @@ module _ (v : Values) (order : List ℕ) (sources : List (Option ℕ)) (r : Situ
     | inr past ↦
         final_past x a (omega (arith, past, ap (λ (l : List ℕ). length l) made.initial))
         (ap (λ (l : List ℕ). length l) made.initial ∙ sym made.lists)
-        ∙ (sym (get_or_past r.memory.values a 0 (omega (arith, past, h.come.values_size))) ∙ end.finals a n is)
+        ∙ (sym (get_or_past r.memory a 0 (omega (arith, past, h.come.values_size))) ∙ end.finals a n is)
   ]
 
   -- it completes them

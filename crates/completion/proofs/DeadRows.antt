@@ -7,7 +7,8 @@ use Rattle.std.proofs.lemmas.Option.{same_Some, slice_get_within, get_or_from_sl
 use Rattle.completion.specs.declared.moves.Move.{Move}
 use Rattle.completion.specs.declared.seen.Seen.{Seen}
 use Rattle.values.specs.Values.{Values, AreAllowed}
-use Rattle.completion.specs.Situation.{Situation, beginning, IsEnd}
+use Rattle.completion.specs.Situation.{beginning, IsEnd}
+use Rattle.situations.specs.Situation.{Situation}
 use Rattle.completion.specs.Search.{IsEarly, IsHopeless, HasMove, HasNext, EveryCompletionIsReached}
 use Rattle.completion.specs.Seen.{IsDead, IsVain, AreSearched}
 

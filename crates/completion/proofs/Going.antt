@@ -5,7 +5,8 @@ use Rattle.std.proofs.lemmas.List.{get_or_past}
 use Rattle.recording.specs.declared.event.Event.{Event}
 use Rattle.values.specs.Values.{Values}
 use Rattle.completion.specs.Performed.{IsTrail, Settles, going}
-use Rattle.completion.specs.Situation.{Memory, Situation, events_of, place_of}
+use Rattle.completion.specs.Situation.{Memory, events_of}
+use Rattle.situations.specs.Situation.{Situation, place_of}
 
 module _ (old new : Situation) where
   pub going_here : (c k : ℕ) → going old new c k c ≡ k

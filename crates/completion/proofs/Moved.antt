@@ -10,18 +10,20 @@ use Rattle.recording.specs.declared.event.Event.TheVariants.{L, S, R, C, F}
 use Rattle.recording.specs.Event.{is_plain_store}
 use Rattle.completion.specs.declared.moves.Move.TheVariants.{Modify, Drain}
 use Rattle.situations.specs.declared.waiting.Waiting.{Waiting}
-use Rattle.completion.specs.Situation.{drained_by, drained_of, events_of, moved, with_drained}
+use Rattle.completion.specs.Situation.{drained_by, events_of, moved}
+use Rattle.situations.specs.Situation.{drained_of, with_drained}
 use Rattle.situations.specs.Step.{stored_by_event}
 use Rattle.situations.specs.Waiting.{none_waits, oldest}
 use Rattle.situations.proofs.Ranges.{between_at}
 use Rattle.values.specs.Values.{Values}
-use Rattle.completion.specs.Situation.{Situation, place_of, waiting, may_read, source_at, with_place, written}
+use Rattle.completion.specs.Situation.{may_read, source_at, written}
+use Rattle.situations.specs.Situation.{Situation, place_of, waiting, with_place}
 use Rattle.completion.specs.Situation.{modified_next}
 
 -- whether core c may read the value r of address a from memory, at place k
 abbrev pub may_modify_at : Values → Situation → ℕ → ℕ → ℕ → ℕ → Bool
-may_modify_at v s c k a r = none_waits stored_by_event (waiting v.cores s c) && ((slice_index s.memory.values a == r)
-    && may_read (source_at v c k) (slice_index s.memory.marks a))
+may_modify_at v s c k a r = none_waits stored_by_event (waiting v.cores s c) && ((slice_index s.memory a == r)
+    && may_read (source_at v c k) (slice_index s.notes a))
 
 -- a read-modify-write that may read leads on
 pub modified_is : (v : Values) (s u next : Situation) (c a r w : ℕ) (o : Option ℕ) (event : Event)
@@ -41,8 +43,8 @@ pub record Modifies (v : Values) (s : Situation) (c : ℕ) (t : Situation) : Typ
   pub inside : place_of s c < length (events_of v.cores c)
   pub event : get_or (events_of v.cores c) (place_of s c) F ≡ R a r o w
   pub none : none_waits stored_by_event (waiting v.cores s c) ≡ true
-  pub value : slice_index s.memory.values a ≡ r
-  pub may : may_read (source_at v c (place_of s c)) (slice_index s.memory.marks a) ≡ true
+  pub value : slice_index s.memory a ≡ r
+  pub may : may_read (source_at v c (place_of s c)) (slice_index s.notes a) ≡ true
   pub is : t ≡ written v (with_place s c (place_of s c + 1)) c (place_of s c) a w
 
 -- a store is the oldest that waits on its core
@@ -147,7 +149,7 @@ module _ (v : Values) (s : Situation) (c : ℕ) (t : Situation) where
           test false h is = let clash : None ≡ Some t = is in absurd cc
           test true h is =
               let parts = and_parts (none_waits stored_by_event (waiting v.cores s c)) _ h in
-              let more = and_parts (slice_index s.memory.values a == r) _ parts.1 in
+              let more = and_parts (slice_index s.memory a == r) _ parts.1 in
               record {
                 a = a;
                 r = r;
@@ -156,7 +158,7 @@ module _ (v : Values) (s : Situation) (c : ℕ) (t : Situation) where
                 inside = inside;
                 event = at;
                 none = parts.0;
-                value = eqb-true (slice_index s.memory.values a) r more.0;
+                value = eqb-true (slice_index s.memory a) r more.0;
                 may = more.1;
                 is = sym (same_Some _ t is);
               }

@@ -5,7 +5,9 @@ use Rattle.std.proofs.lemmas.Bool.{cases_lt}
 use Rattle.std.proofs.lemmas.List.{get_or_past, get_or-replicate, length-replicate}
 use Rattle.recording.specs.declared.event.Event.{Event}
 use Rattle.values.specs.Values.{Values}
-use Rattle.completion.specs.Situation.{Situation, events_of, place_of, drained_of, past_free, each, settled, mark, marked}
+use Rattle.completion.specs.Situation.{memory_of}
+use Rattle.completion.specs.Situation.{events_of, past_free, each, settled, mark, marked}
+use Rattle.situations.specs.Situation.{Situation, place_of, drained_of}
 use Rattle.completion.proofs.Lists.{IsPast, past_is}
 
 -- Numbers for cores
@@ -42,15 +44,15 @@ pub record IsFit (v : Values) (s : Situation) : Type 0 where
 
 module _ (v : Values) (s : Situation) (h : IsFit v s) where
   -- where a core comes to by free steps
-  goes : (c : ℕ) → c < length v.cores → IsPast v s.memory c (drained_of s c) (place_of s c) (place_of (settled v s) c)
+  goes : (c : ℕ) → c < length v.cores → IsPast v (memory_of s) c (drained_of s c) (place_of s c) (place_of (settled v s) c)
   goes c there =
-      subst (λ (t : ℕ). IsPast v s.memory c (drained_of s c) (place_of s c) t)
-      (sym (first_at (length v.cores) c (λ d. past_free v s.memory d (drained_of s d) (place_of s d)) there))
-      (past_is v s.memory c (drained_of s c) (length (events_of v.cores c) - place_of s c) (place_of s c) (h.low c)
+      subst (λ (t : ℕ). IsPast v (memory_of s) c (drained_of s c) (place_of s c) t)
+      (sym (first_at (length v.cores) c (λ d. past_free v (memory_of s) d (drained_of s d) (place_of s d)) there))
+      (past_is v (memory_of s) c (drained_of s c) (length (events_of v.cores c) - place_of s c) (place_of s c) (h.low c)
       (omega (arith, h.within c)))
 
   -- also one that is not there
-  pub settles : (c : ℕ) → IsPast v s.memory c (drained_of s c) (place_of s c) (place_of (settled v s) c)
+  pub settles : (c : ℕ) → IsPast v (memory_of s) c (drained_of s c) (place_of s c) (place_of (settled v s) c)
   settles c = elim (cases_lt c (length v.cores)) [
     | inl there ↦ goes c there
     | inr past ↦
@@ -59,7 +61,7 @@ module _ (v : Values) (s : Situation) (h : IsFit v s) where
         let at : place_of (settled v s) c ≡ 0 = get_or_past (settled v s).places c 0 (omega (
           arith,
           past,
-          each_size (length v.cores) 0 (λ d. past_free v s.memory d (drained_of s d) (place_of s d)),
+          each_size (length v.cores) 0 (λ d. past_free v (memory_of s) d (drained_of s d) (place_of s d)),
         )) in
         record {
           from = omega (arith, at, h.within c, size);
@@ -71,7 +73,7 @@ module _ (v : Values) (s : Situation) (h : IsFit v s) where
 
   pub settled_fit : IsFit v (settled v s)
   settled_fit = record {
-    places = each_size (length v.cores) 0 (λ d. past_free v s.memory d (drained_of s d) (place_of s d));
+    places = each_size (length v.cores) 0 (λ d. past_free v (memory_of s) d (drained_of s d) (place_of s d));
     drained = h.drained;
     low = λ c. omega (arith, h.low c, (settles c).from);
     within = λ c. (settles c).within;
@@ -91,7 +93,8 @@ abbrev pub blank : Values → Situation
 blank v = record {
   places = replicate (length v.cores) 0;
   drained = replicate (length v.cores) 0;
-  memory = record { values = v.initial; marks = replicate (length v.initial) (marked v (mark None)) };
+  memory = v.initial;
+  notes = replicate (length v.initial) (marked v (mark None));
 }
 
 pub blank_fit : (v : Values) → IsFit v (blank v)

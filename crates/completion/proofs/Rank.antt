@@ -10,8 +10,11 @@ use Rattle.recording.specs.declared.event.Event.{Event}
 use Rattle.completion.specs.declared.moves.Move.{Move}
 use Rattle.completion.specs.declared.moves.Move.TheVariants.{Modify, Drain}
 use Rattle.values.specs.Values.{Values}
-use Rattle.completion.specs.Situation.{Situation, events_of, place_of, drained_of, settled, moved, beginning}
-use Rattle.completion.specs.Situation.{with_drained, with_place, with_value, marked, mark_of}
+use Rattle.completion.specs.Situation.{events_of, settled, moved, beginning}
+use Rattle.situations.specs.Situation.{Situation, place_of, drained_of}
+use Rattle.completion.specs.Situation.{marked, mark_of}
+use Rattle.situations.specs.Situation.{with_drained, with_place}
+use Rattle.completion.specs.Situation.{with_write}
 use Rattle.completion.specs.Reachable.{Leads, here, further}
 use Rattle.completion.proofs.Moved.{Modifies, Drains, moved_modify, moved_drain}
 use Rattle.completion.proofs.Places.{IsFit, settles, settled_fit, blank, blank_fit}
@@ -102,7 +105,7 @@ pub record GoesOn (v : Values) (s t : Situation) : Type 0 where
 -- before free steps, too
 module _ (v : Values) (s : Situation) (c : ℕ) (h : IsFit v s) (a w k : ℕ) where
   pub placed_fit : place_of s c < length (events_of v.cores c)
-      → IsFit v (with_value (with_place s c (place_of s c + 1)) a w k)
+      → IsFit v (with_write (with_place s c (place_of s c + 1)) a w k)
   placed_fit inside =
       let core : c < length v.cores = core_there v c (place_of s c) inside in
       let at : c < length s.places = omega (arith, core, h.places) in record {
@@ -122,7 +125,7 @@ module _ (v : Values) (s : Situation) (c : ℕ) (h : IsFit v s) (a w k : ℕ) wh
       }
 
   pub drained_fit : (j : ℕ) → j < place_of s c → j < length (events_of v.cores c)
-      → IsFit v (with_value (with_drained s c (j + 1)) a w k)
+      → IsFit v (with_write (with_drained s c (j + 1)) a w k)
   drained_fit j to inside =
       let core : c < length v.cores = core_there v c j inside in
       let at : c < length s.drained = omega (arith, core, h.drained) in record {
@@ -146,7 +149,7 @@ module _ (v : Values) (s t : Situation) (c : ℕ) (h : IsFit v s) where
   modifies_on m =
       let k : ℕ = place_of s c in
       let at : c < length s.places = omega (arith, core_there v c k m.inside, h.places) in
-      let u : Situation = with_value (with_place s c (k + 1)) m.a m.w (marked v (mark_of v c k)) in
+      let u : Situation = with_write (with_place s c (k + 1)) m.a m.w (marked v (mark_of v c k)) in
       let own : place_of u c ≡ k + 1 = get_or-set_same s.places c (k + 1) 0 at in
       let fit : IsFit v u = placed_fit v s c h m.a m.w (marked v (mark_of v c k)) m.inside in
       subst (GoesOn v s) (sym m.is) (record {
@@ -164,7 +167,7 @@ module _ (v : Values) (s t : Situation) (c : ℕ) (h : IsFit v s) where
       let j : ℕ = m.store.place in
       let at : c < length s.drained = omega (arith, core_there v c j m.next.inside, h.drained) in
       let u : Situation =
-      with_value (with_drained s c (j + 1)) m.store.address m.store.value (marked v (mark_of v c j)) in
+      with_write (with_drained s c (j + 1)) m.store.address m.store.value (marked v (mark_of v c j)) in
       let own : drained_of u c ≡ j + 1 = get_or-set_same s.drained c (j + 1) 0 at in
       let fit : IsFit v u =
       drained_fit v s c h m.store.address m.store.value (marked v (mark_of v c j)) j m.next.to m.next.inside in

@@ -1,9 +1,9 @@
 -- Situations that moves lead to: how many numbers they have, and that none is large.
 use Rattle.std.proofs.Common.{◌≡◌, ◌<◌, ◌≤◌, ◌-◌, ◌^◌, ◌∙◌, inl, inr, ℕ, Bool, true, false, cond, None, Some}
-use Rattle.std.proofs.Common.{arith, get_or, length, length-set, get_or-set_same, get_or-set_other, refl, slice_set, subst, sym}
-use Rattle.std.specs.List.{All, list_any}
-use Rattle.std.proofs.lemmas.Bool.{cases_eq, cases_lt}
-use Rattle.std.proofs.lemmas.List.{get_or-replicate, get_or_default, length-replicate}
+use Rattle.std.proofs.Common.{arith, length, length-set, refl, subst, sym}
+use Rattle.std.specs.List.{list_any}
+use Rattle.std.proofs.lemmas.Bool.{cases_lt}
+use Rattle.std.proofs.lemmas.List.{length-replicate}
 use Rattle.recording.specs.Execution.{event_count}
 use Rattle.values.specs.Refused.{events_alone}
 use Rattle.values.specs.Values.{Values}
@@ -12,20 +12,21 @@ use Rattle.completion.specs.declared.moves.Move.TheVariants.{Modify, Drain}
 use Rattle.completion.specs.declared.seen.Seen.{Seen}
 use Rattle.completion.specs.Performed.{HaveRoom}
 use Rattle.completion.specs.Reachable.{Leads, here, further}
-use Rattle.completion.specs.Row.{FitsAmong, IsSmall}
+use Rattle.situations.specs.Row.{FitsAmong}
 use Rattle.completion.specs.Seen.{AreSearched}
-use Rattle.completion.specs.Situation.{Situation, beginning, events_of, has_mark, mark, mark_of, marked, moved}
-use Rattle.completion.specs.Situation.{place_of, with_value}
+use Rattle.completion.specs.Situation.{beginning, events_of, has_mark, mark, mark_of, marked, moved}
+use Rattle.situations.specs.Situation.{Situation}
+use Rattle.situations.specs.Situation.{place_of}
+use Rattle.completion.specs.Situation.{with_write}
 use Rattle.completion.proofs.Moved.{Drains, Modifies, moved_drain, moved_modify}
 use Rattle.completion.proofs.Numbered.{inside_here}
 use Rattle.completion.proofs.Places.{IsFit}
 use Rattle.completion.proofs.Rank.{beginning_fit, led_fit}
 
--- memory has a value and a mark of each address, and no mark is large
+-- memory has a value and a mark of each address
 record IsKept (v : Values) (s : Situation) : Type 0 where
-  values : length s.memory.values ≡ length v.initial
-  marks : length s.memory.marks ≡ length v.initial
-  few : All (λ n. n < 2 ^ 32) s.memory.marks
+  values : length s.memory ≡ length v.initial
+  marks : length s.notes ≡ length v.initial
 
 -- where a mark is left out, 0 stands
 marked_less : (v : Values) (k : ℕ) → marked v k ≤ k
@@ -40,72 +41,42 @@ module _ (v : Values) (room : HaveRoom v) where
   few = omega (arith, room.few_events)
 
   -- a core has no more events than there are
-  core_small : (c : ℕ) → length (events_of v.cores c) < 2 ^ 32
+  pub core_small : (c : ℕ) → length (events_of v.cores c) < 2 ^ 32
   core_small c = elim (cases_lt 0 (length (events_of v.cores c))) [
     | inr none ↦ omega (arith, none)
     | inl some ↦ omega (arith, some, few, inside_here v c (length (events_of v.cores c) - 1) (omega (arith, some)))
   ]
 
-  mark_small : (c j : ℕ) → j < length (events_of v.cores c) → marked v (mark_of v c j) < 2 ^ 32
+  pub mark_small : (c j : ℕ) → j < length (events_of v.cores c) → marked v (mark_of v c j) < 2 ^ 32
   mark_small c j inside = omega (arith, marked_less v (mark_of v c j), few, inside_here v c j inside)
 
   -- what a write leaves
-  written_kept : (s : Situation) (a w k : ℕ) → k < 2 ^ 32 → IsKept v s → IsKept v (with_value s a w k)
-  written_kept s a w k small h = record {
-    values = length-set s.memory.values a w ∙ h.values;
-    marks = length-set s.memory.marks a k ∙ h.marks;
-    few = λ i d inside.
-        let there : i < length s.memory.marks = omega (arith, inside, length-set s.memory.marks a k) in
-        elim (cases_eq i a) [
-          | inl one ↦
-              let at : a < length s.memory.marks = omega (arith, there, one) in
-              subst (λ (n : ℕ). get_or (slice_set s.memory.marks a k) n d < 2 ^ 32) (sym one)
-              (subst (λ (n : ℕ). n < 2 ^ 32) (sym (get_or-set_same s.memory.marks a k d at)) small)
-          | inr other ↦
-              subst (λ (n : ℕ). n < 2 ^ 32) (sym (get_or-set_other s.memory.marks a i k d other)) (h.few i d there)
-        ];
+  written_kept : (s : Situation) (a w k : ℕ) → IsKept v s → IsKept v (with_write s a w k)
+  written_kept s a w k h = record {
+    values = length-set s.memory a w ∙ h.values;
+    marks = length-set s.notes a k ∙ h.marks;
   }
 
   -- so a move
   moved_kept : (s t : Situation) (move : Move) (c : ℕ) → IsKept v s → moved v s move c ≡ Some t → IsKept v t
   moved_kept s t Modify c h is =
       let m : Modifies v s c t = moved_modify v s c t is in
-      let kept = written_kept s m.a m.w (marked v (mark_of v c (place_of s c))) (mark_small c (place_of s c) m.inside) h in
-      subst (IsKept v) (sym m.is) (record { values = kept.values; marks = kept.marks; few = kept.few })
+      let kept = written_kept s m.a m.w (marked v (mark_of v c (place_of s c))) h in
+      subst (IsKept v) (sym m.is) (record { values = kept.values; marks = kept.marks })
   moved_kept s t Drain c h is =
       let m : Drains v s c t = moved_drain v s c t is in
-      let kept = written_kept s m.store.address m.store.value (marked v (mark_of v c m.store.place))
-      (mark_small c m.store.place m.next.inside) h in
-      subst (IsKept v) (sym m.is) (record { values = kept.values; marks = kept.marks; few = kept.few })
+      let kept = written_kept s m.store.address m.store.value (marked v (mark_of v c m.store.place)) h in
+      subst (IsKept v) (sym m.is) (record { values = kept.values; marks = kept.marks })
 
   beginning_kept : IsKept v (beginning v)
   beginning_kept = record {
     values = refl;
     marks = length-replicate (length v.initial) (marked v (mark None));
-    few = λ i d inside.
-        let there : i < length v.initial =
-        omega (arith, inside, length-replicate (length v.initial) (marked v (mark None))) in
-        subst (λ (n : ℕ). n < 2 ^ 32) (sym (get_or-replicate (length v.initial) i (marked v (mark None)) d there))
-        (omega (arith, marked_less v (mark None)));
   }
 
   led_kept : (r z : Situation) → IsKept v r → Leads v r z → IsKept v z
   led_kept r z h here = h
   led_kept r z h (further s t move c led is) = moved_kept s t move c (led_kept r s h led) is
-
-  -- no number of what moves lead to is large
-  pub led_small : (s : Situation) → Leads v (beginning v) s → IsSmall s
-  led_small s led =
-      let fit : IsFit v s = led_fit v (beginning v) s (beginning_fit v) led in
-      record {
-        places = λ i d inside.
-            subst (λ (n : ℕ). n < 2 ^ 32) (get_or_default s.places i 0 d inside)
-            (omega (arith, fit.within i, core_small i));
-        drained = λ i d inside.
-            subst (λ (n : ℕ). n < 2 ^ 32) (get_or_default s.drained i 0 d inside)
-            (omega (arith, fit.low i, fit.within i, core_small i));
-        marks = (led_kept (beginning v) s beginning_kept led).few;
-      }
 
   -- and it has as many as what was seen
   pub led_fits : (seen : Seen) (s : Situation) → AreSearched v seen → Leads v (beginning v) s → FitsAmong seen.rows s
@@ -113,8 +84,7 @@ module _ (v : Values) (room : HaveRoom v) where
       let fit : IsFit v s = led_fit v (beginning v) s (beginning_fit v) led in
       let kept : IsKept v s = led_kept (beginning v) s beginning_kept led in
       record {
-        places = fit.places ∙ sym all.cores;
-        drained = fit.drained ∙ sym all.cores;
-        values = kept.values ∙ sym all.addresses;
-        marks = kept.marks ∙ sym all.addresses;
+        cores = fit.places ∙ sym all.cores;
+        addresses = kept.values ∙ sym all.addresses;
+        notes = kept.marks ∙ sym all.notes;
       }

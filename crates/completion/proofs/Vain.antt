@@ -16,13 +16,15 @@ use Rattle.completion.specs.declared.moves.Move.TheVariants.{Modify, Drain}
 use Rattle.completion.specs.declared.moves.Turn.{Turn}
 use Rattle.completion.specs.declared.seen.Seen.{Seen}
 use Rattle.values.specs.Values.{Values}
-use Rattle.completion.specs.Situation.{Situation, moved, beginning, modified_next, IsEnd}
-use Rattle.completion.specs.Row.{SeenRows, same_situation}
+use Rattle.completion.specs.Situation.{moved, beginning, modified_next, IsEnd}
+use Rattle.situations.specs.Situation.{Situation}
+use Rattle.situations.specs.Row.{SeenRows, same_situation}
 use Rattle.completion.specs.Search.{IsHopeless}
 use Rattle.completion.specs.Reachable.{Leads, here, further, after_moves, HasMore}
 use Rattle.completion.specs.Seen.{HasNumber, IsDead, IsTaken, IsVain, AreSearched, Grows, turn_of}
 use Rattle.completion.proofs.Rank.{rank, most_rank, further_on}
-use Rattle.completion.proofs.SameRows.{moved_past, same_equiv}
+use Rattle.situations.proofs.SeenRows.{same_equiv}
+use Rattle.completion.proofs.SameRows.{moved_past}
 
 -- Moves that are listed
 
@@ -200,6 +202,7 @@ module _ (v : Values) (seen : Seen) (r : Situation) (old : AreSearched v seen) (
     added_searched = record {
       cores = ap (λ (z : SeenRows). z.cores) is ∙ old.cores;
       addresses = ap (λ (z : SeenRows). z.addresses) is ∙ old.addresses;
+      notes = ap (λ (z : SeenRows). z.notes) is ∙ old.notes;
       size = ap (λ (l : List Bool). length l) dead
           ∙ omega (
             arith,
@@ -255,6 +258,7 @@ module _ (v : Values) (seen new : Seen) (n : ℕ) (old : AreSearched v seen) (ro
   buried_searched vain = record {
     cores = ap (λ (z : SeenRows). z.cores) rows ∙ old.cores;
     addresses = ap (λ (z : SeenRows). z.addresses) rows ∙ old.addresses;
+    notes = ap (λ (z : SeenRows). z.notes) rows ∙ old.notes;
     size = ap (λ (l : List Bool). length l) dead ∙ (length-set seen.dead.items n true
         ∙ (old.size ∙ sym (ap (λ (l : List Situation). length l) keys_same)));
     reached = subst (All (Leads v (beginning v))) (sym keys_same) old.reached;
@@ -275,6 +279,11 @@ module _ (v : Values) (seen new : Seen) (n : ℕ) (old : AreSearched v seen) (ro
                   ∙ (ap (λ (l : List Bool). get_or l i false) (sym dead) ∙ flag),
             ) move c
           ]
+
+-- where turns lead, moves lead
+pub led_by : (v : Values) (turns : List Turn) (row : Situation) → after_moves v (beginning v) turns ≡ Some row
+    → Leads v (beginning v) row
+led_by v turns row comes = leads_on v (beginning v) (beginning v) row turns here comes
 
 -- The way to what a move leads to
 
@@ -329,7 +338,7 @@ popped old before after t n is size left =
 -- The beginning
 
 module _ (v : Values) (seen : Seen) (n a : ℕ) (cores : n ≡ length v.cores) (addresses : a ≡ length v.initial)
-    (is : seen.rows ≡ record { cores = n; addresses = a; keys = [] }) (dead : seen.dead.items ≡ []) where
+    (is : seen.rows ≡ record { cores = n; addresses = a; notes = a; keys = [] }) (dead : seen.dead.items ≡ []) where
   no_keys : seen.rows.keys ≡ []
   no_keys = ap (λ (z : SeenRows). z.keys) is
 
@@ -337,6 +346,7 @@ module _ (v : Values) (seen : Seen) (n a : ℕ) (cores : n ≡ length v.cores) (
   none_searched = record {
     cores = ap (λ (z : SeenRows). z.cores) is ∙ cores;
     addresses = ap (λ (z : SeenRows). z.addresses) is ∙ addresses;
+    notes = ap (λ (z : SeenRows). z.notes) is ∙ addresses;
     size = ap (λ (l : List Bool). length l) dead ∙ sym (ap (λ (l : List Situation). length l) no_keys);
     reached = subst (All (Leads v (beginning v))) (sym no_keys) (All-nil (Leads v (beginning v)));
     different = subst (IsDistinct same_situation) (sym no_keys)

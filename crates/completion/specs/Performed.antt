@@ -12,11 +12,14 @@ use Rattle.recording.specs.Tso.{Gives}
 use Rattle.values.specs.Final.{value_by}
 use Rattle.values.specs.Refused.{events_alone}
 use Rattle.values.specs.Values.{Values, known_source}
+use Rattle.completion.specs.Situation.{memory_of}
 use Rattle.completion.specs.Search.{event_of}
-use Rattle.completion.specs.Situation.{Memory, Situation, drained_of, events_of, is_free_at, mark, marked, number_of}
+use Rattle.completion.specs.Situation.{Memory, events_of, is_free_at, mark, marked, number_of}
+use Rattle.situations.specs.Situation.{Situation, drained_of}
 use Rattle.situations.specs.Step.{stored_by_event}
 use Rattle.situations.specs.Waiting.{between, youngest}
-use Rattle.completion.specs.Situation.{place_of, IsEnd}
+use Rattle.completion.specs.Situation.{IsEnd}
+use Rattle.situations.specs.Situation.{place_of}
 
 -- whether an address, if there is one, is address a
 abbrev pub is_address : Option ℕ → ℕ → Bool
@@ -148,9 +151,9 @@ pub record Settles (v : Values) (old new : Situation) : Type 0 where
   pub low : (c : ℕ) → place_of old c ≤ place_of new c
   pub within : (c : ℕ) → place_of new c ≤ length (events_of v.cores c)
   pub free : (c j : ℕ) → place_of old c ≤ j → j < place_of new c
-      → is_free_at v new.memory c (drained_of new c) j ≡ true
+      → is_free_at v (memory_of new) c (drained_of new c) j ≡ true
 
 -- what was performed leads to the end
 abbrev pub LeadsToEnd : Values → List ℕ → List (Option ℕ) → Type 0
 LeadsToEnd v order sources = (r : Situation) × IsEnd v r
-    × IsTrail v order sources (place_of r) (drained_of r) r.memory
+    × IsTrail v order sources (place_of r) (drained_of r) (memory_of r)

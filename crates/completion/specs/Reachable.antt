@@ -4,8 +4,9 @@ use Rattle.std.specs.List.{IsDistinct}
 use Rattle.completion.specs.declared.moves.Move.{Move}
 use Rattle.completion.specs.declared.moves.Turn.{Turn}
 use Rattle.values.specs.Values.{Values}
-use Rattle.completion.specs.Situation.{Situation, moved, beginning, IsEnd}
-use Rattle.completion.specs.Row.{same_situation}
+use Rattle.completion.specs.Situation.{moved, beginning, IsEnd}
+use Rattle.situations.specs.Situation.{Situation}
+use Rattle.situations.specs.Row.{same_situation}
 
 -- moves lead from one situation to another
 pub data Leads (v : Values) (r : Situation) : Situation → Type 0 where

@@ -5,8 +5,9 @@ use Rattle.completion.specs.declared.moves.Move.{Move}
 use Rattle.completion.specs.declared.moves.Turn.{Turn}
 use Rattle.completion.specs.declared.seen.Seen.{Seen}
 use Rattle.values.specs.Values.{Values}
-use Rattle.completion.specs.Situation.{Situation, moved, beginning, IsEnd}
-use Rattle.completion.specs.Row.{same_situation}
+use Rattle.completion.specs.Situation.{moved, beginning, IsEnd}
+use Rattle.situations.specs.Situation.{Situation}
+use Rattle.situations.specs.Row.{same_situation}
 use Rattle.completion.specs.Search.{IsEarly, IsHopeless}
 use Rattle.completion.specs.Reachable.{Leads}
 
@@ -35,6 +36,7 @@ IsVain v seen r move c = IsEarly v r move c
 pub record AreSearched (v : Values) (seen : Seen) : Type 0 where
   pub cores : seen.rows.cores ≡ length v.cores
   pub addresses : seen.rows.addresses ≡ length v.initial
+  pub notes : seen.rows.notes ≡ length v.initial
   pub size : length seen.dead.items ≡ length seen.rows.keys
   pub reached : All (Leads v (beginning v)) seen.rows.keys
   pub different : IsDistinct same_situation seen.rows.keys

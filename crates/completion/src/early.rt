@@ -8,10 +8,9 @@ ghost use Rattle.completion.specs.Search.{HasToWait, IsEarly, IsForced, IsLeft, 
 use crate::counts::{core_count, number_of};
 use crate::moves::Move;
 use crate::pairs::has;
-use crate::row::Row;
 use bitrow::BitRow;
 use recording::Event;
-use situations::{between, oldest};
+use situations::{Row, between, oldest};
 use values::Values;
 
 /// The place of the event that a move of a core performs, if it can be made.

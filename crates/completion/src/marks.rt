@@ -5,6 +5,7 @@ ghost use Rattle.completion.specs.Situation.{has_mark, mark, mark_of, mark_read,
 
 use crate::counts::number_of;
 use common::{Addr, EventId};
+use situations::{Row, value_at};
 use values::Values;
 
 /// The mark of a source.
@@ -77,11 +78,10 @@ pub(crate) fn may_read(known: Option<Option<EventId>>, mark: usize) -> bool
 }
 
 /// The mark of an address in memory; 0 where it is not there.
-pub(crate) fn mark_at(marks: &[usize], address: Addr) -> usize
-    ensures { result ≡ slice_index marks.now address }
+pub(crate) fn mark_at(row: &Row, address: Addr) -> usize
+    ensures { result ≡ slice_index row.now.notes address }
 {
-    let index = address as usize;
-    if index < marks.len() { marks[index] } else { 0 }
+    value_at(row.notes(), address as usize) as usize
 }
 
 /// The mark of what a core reads: of its store at a place, or the one in memory.

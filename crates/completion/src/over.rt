@@ -5,8 +5,7 @@ ghost use Rattle.values.specs.Values.{known_final};
 ghost use Rattle.completion.specs.Situation.{IsEnd, IsOver};
 
 use crate::counts::core_count;
-use crate::row::Row;
-use situations::{between, oldest, value_at};
+use situations::{Row, between, oldest, value_at};
 use values::Values;
 
 /// Whether a core has come to its end.
@@ -37,7 +36,7 @@ fn are_over(values: &Values, row: &Row) -> bool
 /// Whether each address has the value that it is known to end with.
 fn has_finals(values: &Values, row: &Row) -> bool
     ensures { IsTrue result
-        ↔ ((a n : ℕ) → known_final values.now a ≡ Some n → slice_index row.now.memory.values a ≡ n) }
+        ↔ ((a n : ℕ) → known_final values.now a ≡ Some n → slice_index row.now.memory a ≡ n) }
 {
     let known = values.final_values();
     let memory = row.memory();

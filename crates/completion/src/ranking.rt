@@ -13,11 +13,10 @@ ghost use Rattle.completion.specs.Situation.{moved};
 use crate::counts::core_count;
 use crate::early::is_early;
 use crate::moves::{Move, Turn};
-use crate::row::Row;
 use bitrow::BitRow;
 use common::{Addr, OutOfMemory};
 use recording::Event;
-use situations::{Waiting, between, oldest, value_at};
+use situations::{Row, Waiting, between, oldest, value_at};
 use std::alloc::Global;
 use values::Values;
 

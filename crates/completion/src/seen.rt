@@ -1,8 +1,7 @@
 //! Rows that a search has seen.
 
-use crate::row::Row;
-use crate::rows::Rows;
 use common::OutOfMemory;
+use situations::{Row, Rows};
 use std::alloc::Global;
 
 /// Rows that a search has seen, each once, in the order in which they came; and for each, whether it is dead: no way
@@ -17,17 +16,18 @@ impl Seen {
     ghost use Rattle.std.specs.Prelude.{◌≡◌, ◌+◌, ◌^◌, ◌<◌, ◌++◌, ◌∷◌, [], IfNone, IfOk, IfSome, OnOk, Some, false, true};
     ghost use Rattle.std.specs.Prelude.{length, slice_get, slice_index_or, slice_set};
     ghost use Rattle.std.specs.List.{list_any};
-    ghost use Rattle.completion.specs.Row.{FitsAmong, IsSmall, same_situation};
+    ghost use Rattle.situations.specs.Row.{FitsAmong, same_situation};
     ghost use Rattle.completion.specs.Seen.{HasNumber};
 
     /// No rows, of as many cores and addresses. Fails only if out of memory.
     pub(crate) fn new(alloc: Global, cores: usize, addresses: usize) -> Result<Seen, OutOfMemory>
         requires { cores + cores + addresses + addresses < 2 ^ 32 }
-        ensures rows { IfOk result (λ seen. seen.rows ≡ record { cores = cores; addresses = addresses; keys = [] }) }
+        ensures rows { IfOk result (λ seen. seen.rows
+            ≡ record { cores = cores; addresses = addresses; notes = addresses; keys = [] }) }
         ensures dead { IfOk result (λ seen. seen.dead.items ≡ []) }
     {
         Ok(Seen {
-            rows: Rows::new(alloc, cores, addresses)?,
+            rows: Rows::new(alloc, cores, addresses, addresses)?,
             dead: Vec::new(alloc),
         })
     }
@@ -47,15 +47,14 @@ impl Seen {
         self.rows.row(alloc, number)
     }
 
-    /// The number of a row; none where it was not seen. Fails only if out of memory.
-    pub(crate) fn number(&mut self, alloc: Global, row: &Row) -> Result<Option<usize>, OutOfMemory>
-        requires fits { FitsAmong self.old.rows row.now }
-        requires small { IsSmall row.now }
-        ensures known { IfOk result (λ o. IfSome o (HasNumber self.old row.now)) }
-        ensures new { IfOk result (λ o. IfNone o (list_any (same_situation row.now) self.old.rows.keys ≡ false)) }
+    /// The number of a row; none where it was not seen.
+    pub(crate) fn number(&mut self, row: &Row) -> Option<usize>
+        requires { FitsAmong self.old.rows row.now }
+        ensures known { IfSome result (HasNumber self.old row.now) }
+        ensures new { IfNone result (list_any (same_situation row.now) self.old.rows.keys ≡ false) }
         ensures kept { self.new ≡ self.old }
     {
-        self.rows.number(alloc, row)
+        self.rows.number(row)
     }
 
     /// Whether the row with a number is dead.
@@ -72,7 +71,6 @@ impl Seen {
     /// Adds a row that was not seen, and gives its number. Fails only if out of memory, or with 2^32 - 1 rows.
     pub(crate) fn add(&mut self, alloc: Global, row: &Row) -> Result<usize, OutOfMemory>
         requires fits { FitsAmong self.old.rows row.now }
-        requires small { IsSmall row.now }
         requires new { list_any (same_situation row.now) self.old.rows.keys ≡ false }
         ensures rows { OnOk result (self.new.rows
             ≡ record self.old.rows { keys = self.old.rows.keys ++ row.now ∷ [] }) }

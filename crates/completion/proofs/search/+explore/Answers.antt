@@ -8,7 +8,8 @@ use Rattle.completion.specs.declared.moves.Turn.{Turn}
 use Rattle.completion.specs.declared.seen.Seen.{Seen}
 use Rattle.completion.specs.Reachable.{HasMore}
 use Rattle.completion.specs.Seen.{Grows, HasNumber, IsTaken, IsVain}
-use Rattle.completion.specs.Situation.{Situation, beginning, moved}
+use Rattle.completion.specs.Situation.{beginning, moved}
+use Rattle.situations.specs.Situation.{Situation}
 use Rattle.completion.proofs.Rank.{rank, most_rank}
 use Rattle.completion.proofs.Vain.{all_vain, buried_dead, buried_grows, buried_searched, grows_on, popped, step_comes, step_falls, vain_still}
 use Rattle.completion.proofs.search.+explore.Goals as goal

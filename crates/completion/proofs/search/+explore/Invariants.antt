@@ -1,7 +1,8 @@
 use Rattle.std.proofs.Common.{◌≡◌, ◌<◌, ◌+◌, ◌-◌, ℕ, get_or}
 use Rattle.completion.specs.declared.moves.Turn.{Turn}
 use Rattle.completion.specs.Seen.{AreSearched, Grows, HasNumber, IsVain}
-use Rattle.completion.specs.Situation.{Situation, beginning}
+use Rattle.completion.specs.Situation.{beginning}
+use Rattle.situations.specs.Situation.{Situation}
 use Rattle.completion.proofs.Rank.{rank, most_rank}
 use Rattle.completion.proofs.search.+explore.Given as goal
 

@@ -1,15 +1,12 @@
 use Rattle.std.proofs.Common.{◌≤◌, ℕ, subst, sym}
 use Rattle.completion.specs.Seen.{HasNumber}
-use Rattle.completion.proofs.Shapes.{led_fits, led_small}
+use Rattle.completion.proofs.Shapes.{led_fits}
 use Rattle.completion.proofs.Vain.{one_too_many, added_grows, added_searched, added_number}
 use Rattle.completion.proofs.search.add.Goals as goal
 
 pub add-requires-clause-fits : goal.add-requires-clause-fits
 add-requires-clause-fits c =
     led_fits c.args.values.now c.requires.room c.args.way.now.seen c.args.next.now c.requires.searched c.requires.led
-
-pub add-requires-clause-small : goal.add-requires-clause-small
-add-requires-clause-small c = led_small c.args.values.now c.requires.room c.args.next.now c.requires.led
 
 pub returns-then-len-way-clause-full : goal.returns-then-len-way-clause-full
 returns-then-len-way-clause-full c =

@@ -3,7 +3,7 @@ use Rattle.completion.specs.Reachable.{Leads, here}
 use Rattle.completion.specs.Search.{IsHopeless}
 use Rattle.completion.specs.Situation.{beginning, IsEnd}
 use Rattle.completion.proofs.DeadRows.{beginning_hopeless}
-use Rattle.completion.proofs.Shapes.{led_fits, led_small}
+use Rattle.completion.proofs.Shapes.{led_fits}
 use Rattle.completion.proofs.Vain.{added_searched, none_known, none_searched, one_too_many}
 use Rattle.completion.proofs.search.search.Goals as goal
 
@@ -40,11 +40,6 @@ add-requires-clause-new c =
     none_known c.args.values.now c.in_ok-seen.seen _ _ c.core_count.ensures
     (ap (λ (l : List ℕ). length l) c.init.ensures) c.in_ok-seen.ensures.rows c.in_ok-seen.ensures.dead
     c.in_ok-first.first
-
-pub add-requires-clause-small : goal.add-requires-clause-small
-add-requires-clause-small c =
-    let v = c.args.values.now in
-    led_small v c.requires.room c.in_ok-first.first (subst (Leads v (beginning v)) (sym c.in_ok-first.ensures) here)
 
 pub try_all-requires-clause-searched : goal.try_all-requires-clause-searched
 try_all-requires-clause-searched c =

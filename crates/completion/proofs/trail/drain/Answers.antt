@@ -2,8 +2,10 @@ use Rattle.std.proofs.Common.{◌≡◌, ◌+◌, ◌++◌, ◌∷◌, [], ◌�
 use Rattle.std.proofs.lemmas.Option.{same_Some}
 use Rattle.recording.specs.declared.event.Event.{Event}
 use Rattle.situations.specs.declared.waiting.Waiting.{Waiting}
+use Rattle.completion.specs.Situation.{memory_of}
 use Rattle.completion.specs.Performed.{IsTrail}
-use Rattle.completion.specs.Situation.{beginning, drained_by, drained_of, events_of, number_of, place_of, waiting, with_drained}
+use Rattle.completion.specs.Situation.{beginning, drained_by, events_of, number_of}
+use Rattle.situations.specs.Situation.{drained_of, place_of, waiting, with_drained}
 use Rattle.situations.specs.Step.{stored_by_event}
 use Rattle.situations.specs.Waiting.{between, oldest}
 use Rattle.completion.specs.Situation.{written}
@@ -21,11 +23,11 @@ returns c s is =
     let x : Waiting = c.in-Some.store in
     let waits : c.between-waiting.result.now ≡ waiting v.cores row core =
     c.between-waiting.ensures ∙ (ap (λ (l : List Event). between l c.drained-from.result c.place.result) c.events.ensures
-    ∙ (ap (λ (n : ℕ). between es n c.place.result) c.drained-from.ensures
-    ∙ ap (λ (n : ℕ). between es (drained_of row core) n) c.place.ensures)) in
+    ∙ (ap (λ (n : ℕ). between es n c.place.result) c.drained-from.ensures.value
+    ∙ ap (λ (n : ℕ). between es (drained_of row core) n) c.place.ensures.value)) in
     let found : oldest stored_by_event (drained_of row core) (waiting v.cores row core) ≡ Some x =
     sym (ap (λ (l : List Event). oldest stored_by_event (drained_of row core) l) waits)
-    ∙ (sym (ap (λ (n : ℕ). oldest stored_by_event n c.between-waiting.result.now) c.drained-from.ensures)
+    ∙ (sym (ap (λ (n : ℕ). oldest stored_by_event n c.between-waiting.result.now) c.drained-from.ensures.value)
     ∙ (sym c.oldest.ensures.value ∙ c.in-Some.is)) in
     let made : s ≡ written v (with_drained row core (x.place + 1)) core x.place x.address x.value =
     sym (same_Some _ s (sym (ap (drained_by v row core) found) ∙ is)) in
@@ -40,9 +42,9 @@ returns c s is =
     c.in_ok-perform.ensures.sources
     ∙ ap (λ (n : ℕ). slice_set c.args.trail.now.sources.items n None) c.event_number-number.ensures in (
       right.0,
-      subst (λ (l : List ℕ). IsTrail v l c.perform.new.trail.sources.items (place_of row) (drained_of s) s.memory)
+      subst (λ (l : List ℕ). IsTrail v l c.perform.new.trail.sources.items (place_of row) (drained_of s) (memory_of s))
           (sym order)
           (subst (λ (l : List (Option ℕ)). IsTrail v
-          (c.args.trail.now.order.items ++ number_of v.cores core x.place ∷ []) l (place_of row) (drained_of s) s.memory)
+          (c.args.trail.now.order.items ++ number_of v.cores core x.place ∷ []) l (place_of row) (drained_of s) (memory_of s))
           (sym sources) right.1),
     )

@@ -1,8 +1,10 @@
 use Rattle.std.proofs.Common.{◌≡◌, ◌+◌, ◌∙◌, ℕ, List, drop, ap, sym, subst}
+use Rattle.completion.specs.Situation.{memory_of}
 use Rattle.completion.specs.declared.moves.Turn.{Turn}
 use Rattle.completion.specs.Performed.{IsTrail}
 use Rattle.completion.specs.Reachable.{Leads, here, further, after_moves}
-use Rattle.completion.specs.Situation.{Situation, beginning, drained_of, place_of, IsEnd}
+use Rattle.completion.specs.Situation.{beginning, IsEnd}
+use Rattle.situations.specs.Situation.{Situation, drained_of, place_of}
 use Rattle.completion.proofs.Begun.{turn_goes, way_over}
 use Rattle.completion.proofs.trail.follow.Goals as goal
 
@@ -25,7 +27,7 @@ loop-next-preserved c =
     subst (λ (z : Situation). record {
       led : Leads v (beginning v) z;
       trail : IsTrail v c.take_turn.new.trail.order.items c.take_turn.new.trail.sources.items (place_of z)
-          (drained_of z) z.memory;
+          (drained_of z) (memory_of z);
       rest : after_moves v z (drop (i + 1) turns) ≡ after_moves v (beginning v) turns;
     }) (sym made.0) (record {
       led = further row goes.0 _ _ c.loop-next.invariant.led goes.1;

@@ -1,6 +1,7 @@
 use Rattle.std.proofs.Common.{◌≡◌, ◌∙◌, ℕ, List, Some, None, arith, sym, ap}
 use Rattle.recording.specs.declared.event.Event.{Event}
-use Rattle.completion.specs.Situation.{drained_of, events_of}
+use Rattle.completion.specs.Situation.{events_of}
+use Rattle.situations.specs.Situation.{drained_of}
 use Rattle.situations.specs.Step.{stored_by_event}
 use Rattle.situations.specs.Waiting.{between, youngest}
 use Rattle.completion.proofs.Lists.{youngest_within}
@@ -12,10 +13,10 @@ event_number-requires-clause-there c =
     let d : ℕ = drained_of c.args.row.now c.args.core in
     let seen : c.between-seen.result.now ≡ between es d c.args.place =
     c.between-seen.ensures ∙ (ap (λ (l : List Event). between l c.drained-from.result c.args.place) c.events.ensures
-    ∙ ap (λ (n : ℕ). between es n c.args.place) c.drained-from.ensures) in
+    ∙ ap (λ (n : ℕ). between es n c.args.place) c.drained-from.ensures.value) in
     let is : youngest stored_by_event c.args.address None d (between es d c.args.place) ≡ Some c.in-Some.own =
     sym (ap (λ (l : List Event). youngest stored_by_event c.args.address None d l) seen)
-    ∙ (sym (ap (λ (n : ℕ). youngest stored_by_event c.args.address None n c.between-seen.result.now) c.drained-from.ensures)
+    ∙ (sym (ap (λ (n : ℕ). youngest stored_by_event c.args.address None n c.between-seen.result.now) c.drained-from.ensures.value)
     ∙ (sym c.youngest.ensures ∙ c.in-Some.is)) in
     omega (
       arith,
