@@ -94,10 +94,9 @@ events that every memory order has in order, each with its reason: Po (program o
 shorter. In the last two cases TSO allows no order. The answer does not depend on the
 number of workers.
 
-With `--long` a recording may have up to 16777216 events of 1024 cores over 65536 addresses;
-else 512 events of 16 cores over 16. Orders and overlooks are answered as without it. A
-cycle has no shortcut: no event of it is forced before an event of it other than the next.
-It may not be the shortest, and has no labels.",
+With `--long` orders and overlooks are answered as without it. A cycle has no shortcut: no
+event of it is forced before an event of it other than the next. It may not be the shortest,
+and has no labels.",
     statuses: "Exit status:
   0  TSO allows the recording
   1  an error of the command line, a file or memory, as standard error says

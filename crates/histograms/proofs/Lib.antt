@@ -1,3 +1,4 @@
 pub mod Counts
 pub mod Same
 pub mod Tallies
+pub mod OneHistogram

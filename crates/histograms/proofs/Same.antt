@@ -7,7 +7,8 @@ use Rattle.std.proofs.lemmas.Bool.{cases_Bool}
 use Rattle.outcomes.specs.Outcome.{Outcome}
 use Rattle.outcomes.specs.Listed.{same_outcome}
 
-equivalence : IsEquivalence same_outcome
+-- the test of outcomes is an equivalence
+pub equivalence : IsEquivalence same_outcome
 equivalence = search (comparing, rules)
 
 -- an outcome is itself

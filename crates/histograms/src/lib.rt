@@ -2,6 +2,7 @@
 #![tactic(auto)]
 
 mod histogram;
+mod law;
 mod live_runs;
 mod seeded_runs;
 mod seen;
@@ -9,6 +10,7 @@ mod tally;
 mod text;
 
 pub use histogram::Histogram;
+pub use law::runs_have_one_histogram;
 pub use live_runs::{LiveRuns, live_histogram};
 pub use seeded_runs::{SeededRuns, seeded_histogram};
 pub use seen::Seen;

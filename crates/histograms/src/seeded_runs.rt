@@ -113,8 +113,7 @@ pub fn seeded_histogram<R: Threads + Sync>(
     runs: &SeededRuns,
 ) -> Result<Histogram, OutOfMemory>
     requires { 0 < runs.now.workers }
-    ensures { IfOk result (λ h. (seen : List (Option Seen)) × AreSeededRuns program.now runs.now seen
-        × IsHistogram seen h × IsRanked h) }
+    ensures { IfOk result (IsHistogramOf program.now runs.now) }
 {
     let mut histogram = Histogram::new(alloc);
     let mut made = 0;

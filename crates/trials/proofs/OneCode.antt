@@ -42,7 +42,7 @@ module _ (attempts : ℕ) (h : Configuration) (rng : List ℕ) where
   ]
 
   -- and end in one machine
-  one_end : (e f : Configuration) (r s : List ℕ) → IsRandomRun attempts h rng e r
+  pub one_end : (e f : Configuration) (r s : List ℕ) → IsRandomRun attempts h rng e r
       → IsRandomRun attempts h rng f s → e ≡ f
   one_end e f r s x y = x.leads ∙ (ap (configuration_after h rng) (one_length e f r s x y) ∙ sym y.leads)
 
