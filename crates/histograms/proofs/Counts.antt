@@ -1,6 +1,6 @@
 -- What one item more does to what is counted of a list.
-use Rattle.std.proofs.Common.{◌≡◌, ◌+◌, ◌<◌, ◌++◌, ◌∷◌, ◌||◌, inl, inr, ℕ, suc, Bool, true, false, not, List, [], Option, Some, drop, length, slice_get}
-use Rattle.std.proofs.Common.{cond, add-one, arith, drop-cons, refl, sym, ap, ◌∙◌}
+use Rattle.std.proofs.Common.{◌≡◌, ◌+◌, ◌++◌, ◌∷◌, ◌||◌, inl, inr, ℕ, Bool, true, false, not, List, [], Some, drop, length, slice_get}
+use Rattle.std.proofs.Common.{cond, add-one, arith, drop-cons, refl, ap}
 use Rattle.std.specs.Prelude.{count_by}
 use Rattle.std.specs.List.{list_any, prefix_len}
 use Rattle.std.proofs.lemmas.Bool.{cases_Bool}

@@ -1,11 +1,10 @@
 -- The random runs of a program have one histogram.
-use Rattle.std.proofs.Common.{◌≡◌, ◌<◌, ◌≤◌, ◌+◌, ◌∙◌, inl, inr, ℕ, zero, suc, Bool, true, false, List, [], ◌∷◌, Option, Some, None}
+use Rattle.std.proofs.Common.{◌≡◌, ◌<◌, ◌+◌, ◌∙◌, ℕ, zero, suc, Bool, true, false, List, [], ◌∷◌, Option, Some, None}
 use Rattle.std.proofs.Common.{ap, arith, get_or, length, map, refl, rules, subst, sym}
 use Rattle.std.specs.Cmp.{IsTotalOrder}
 use Rattle.std.specs.Cmp.Rules.{comparing}
 use Rattle.std.specs.List.{Contains, IsDistinct}
 use Rattle.std.specs.List.Sorted.{IsSorted}
-use Rattle.std.specs.Map.{lookup}
 use Rattle.std.specs.Ordering.{eq_by_cmp, is_eq, is_lt, nat_cmp, ordering_then, ordering_reverse}
 use Rattle.std.specs.declared.cmp.Ordering.{Ordering}
 use Rattle.std.specs.declared.cmp.Ordering.TheVariants.{Less, Equal, Greater}
@@ -21,7 +20,6 @@ use Rattle.outcomes.specs.Listed.{compared, same_outcome}
 use Rattle.trials.proofs.OneCode.{one_end}
 use Rattle.histograms.specs.declared.seen.Seen.{Seen}
 use Rattle.histograms.specs.declared.seeded_runs.SeededRuns.{SeededRuns}
-use Rattle.histograms.specs.declared.tally.Tally.{Tally}
 use Rattle.histograms.specs.Histogram.{Bar, Histogram, IsHistogram, IsRanked, ranked}
 use Rattle.histograms.specs.OneHistogram.{IsHistogramOf}
 use Rattle.histograms.specs.Runs.{AreSeededRuns, IsSeededRun}
@@ -71,7 +69,7 @@ one_run p o workers run s t one two =
 one_list : (p : Parts) (o : SeededRuns) (workers : ℕ) (runs others : List (Option Seen)) → AreSeededRuns p o runs
     → AreSeededRuns p (record o { workers = workers }) others → runs ≡ others
 one_list p o workers runs others one two = ext_get_or None runs others (one.count ∙ sym two.count)
-    (λ k inside. one_run p o workers k (get_or runs k None) (get_or others k None) (one.each k inside)
+    (λ k inside. one_run p o workers (0 + k) (get_or runs k None) (get_or others k None) (one.each k inside)
     (two.each k (omega (arith, inside, one.count, two.count))))
 
 -- Histograms
@@ -149,7 +147,10 @@ not_in_rest b bs once (i, inside, at) =
 
 -- a ranked list without its first bar is ranked
 rest_sorted : (b : Bar) (bs : List Bar) → IsSorted ranked (b ∷ bs) → IsSorted ranked bs
-rest_sorted b bs sorted = λ k d low high. sorted (suc k) d (omega arith) (omega (arith, high))
+rest_sorted b bs sorted k d low high =
+    let next : suc k + 1 ≡ suc (k + 1) = omega arith in
+    subst (λ (n : ℕ). is_lt (ranked (get_or (b ∷ bs) n d) (get_or bs k d)) ≡ false) next
+    (sorted (suc k) d (omega arith) (omega (arith, high)))
 
 -- ranked lists with the same bars, each once, are one
 one_order : (xs ys : List Bar) → IsSorted ranked xs → IsSorted ranked ys → IsDistinct same_outcome (keys xs)
@@ -167,7 +168,8 @@ one_order (x ∷ xs) (y ∷ ys) up_x up_y once_x once_y to from =
     tied y x (none_before x y xs up_x back) (none_before y x ys up_y there) in
     let first : x ≡ y = is_first y x ys once_y there same in
     let rest : xs ≡ ys =
-    one_order xs ys (rest_sorted x xs up_x) (rest_sorted y ys up_y) (IsDistinct-tail once_x) (IsDistinct-tail once_y)
+    one_order xs ys (rest_sorted x xs up_x) (rest_sorted y ys up_y) (IsDistinct-tail same_outcome x.0 (keys xs) once_x)
+    (IsDistinct-tail same_outcome y.0 (keys ys) once_y)
     (λ b at. in_rest y b ys (to b (has_rest x b xs at))
     (λ is. not_in_rest x xs once_x (subst (Contains xs) (is ∙ sym first) at)))
     (λ b at. in_rest x b xs (from b (has_rest y b ys at))

@@ -1,14 +1,13 @@
 -- What one run more does to the tallies.
-use Rattle.std.proofs.Common.{◌≡◌, ◌+◌, ◌++◌, ◌∷◌, ◌||◌, ◌&&◌, inl, inr, ℕ, Bool, true, false, List, [], Option, Some, None}
-use Rattle.std.proofs.Common.{cond, length, arith, refl, sym, ap, ◌∙◌}
+use Rattle.std.proofs.Common.{◌≡◌, ◌+◌, ◌++◌, ◌∷◌, ◌||◌, inl, inr, Bool, true, false, List, [], Option, Some, None}
+use Rattle.std.proofs.Common.{length, arith, refl, ◌∙◌}
 use Rattle.std.specs.Prelude.{count_by}
 use Rattle.std.specs.List.{list_any}
 use Rattle.std.proofs.lemmas.Bool.{cases_Bool}
 use Rattle.outcomes.specs.Outcome.{Outcome}
 use Rattle.outcomes.specs.Listed.{same_outcome}
 use Rattle.histograms.specs.declared.seen.Seen.{Seen}
-use Rattle.histograms.specs.declared.tally.Tally.{Tally}
-use Rattle.histograms.specs.Histogram.{comes_to, violates_by, tally, tally_of, with_run}
+use Rattle.histograms.specs.Histogram.{comes_to, violates_by, tally_of, with_run}
 use Rattle.histograms.proofs.Counts.{count_more, count_none, any_more, first_stays, first_comes, none_of_fewer}
 
 -- what does not come to an outcome does not violate by it

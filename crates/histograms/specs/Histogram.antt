@@ -1,5 +1,5 @@
 -- How often runs come to each outcome.
-use Rattle.std.specs.Prelude.{◌≡◌, ◌+◌, ◌∷◌, ◌&&◌, ◌||◌, ℕ, Bool, true, false, not, if◌then◌else◌, List, [], Option}
+use Rattle.std.specs.Prelude.{◌≡◌, ◌+◌, ◌&&◌, ◌||◌, ℕ, Bool, false, not, if◌then◌else◌, List, Option}
 use Rattle.std.specs.Prelude.{Some, None, count_by, is_none, map}
 use Rattle.std.specs.List.{IsDistinct, list_any, prefix_len}
 use Rattle.std.specs.List.Sorted.{IsSorted}

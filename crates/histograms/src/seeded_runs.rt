@@ -2,8 +2,9 @@
 
 ghost use Rattle.std.specs.Prelude.{◌≡◌, ◌+◌, ◌<◌, ◌^◌, ◌++◌, IfOk, List, Ok, OnOk, Option, length, map};
 ghost use Rattle.histograms.specs.declared.seen.Seen.{Seen};
-ghost use Rattle.histograms.specs.Histogram.{IsHistogram, IsRanked};
-ghost use Rattle.histograms.specs.Runs.{AreMadeFrom, AreSeededRuns, IsSeededRun};
+ghost use Rattle.histograms.specs.Histogram.{IsHistogram};
+ghost use Rattle.histograms.specs.OneHistogram.{IsHistogramOf};
+ghost use Rattle.histograms.specs.Runs.{AreMadeFrom, IsSeededRun};
 
 use crate::histogram::Histogram;
 use crate::seen::{Seen, seen_of};

@@ -1,4 +1,4 @@
-use Rattle.std.proofs.Common.{◌≡◌, refl, sym, ◌∙◌}
+use Rattle.std.proofs.Common.{refl, sym, ◌∙◌}
 use Rattle.histograms.proofs.Counts.{from_index}
 use Rattle.histograms.proofs.histogram.Histogram.has_violation.Goals as goal
 
