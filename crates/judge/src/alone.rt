@@ -12,9 +12,9 @@ ghost use Rattle.judge.specs.LeastCertificate.{IsCyclicTable, IsLeastCertificate
 
 use common::OutOfMemory;
 use labels::Certificate;
-use order::build;
+use long::{FirstOrder, first_order};
 use recording::Recording;
-use relations::{Relation, forced_is_exact, ordered_is_acyclic, overlook, relation_is_forced};
+use relations::{Places, Relation, forced_is_exact, ordered_is_acyclic, relation_is_forced};
 use search::shortest_cycle;
 use std::alloc::Global;
 use std::sync::Arc;
@@ -31,16 +31,11 @@ pub(crate) fn verdict_or_cyclic(
     ensures verified { IfOk result (λ found. IfOk found (Verifies recording.now)) }
     ensures cyclic { IfOk result (λ found. IfErr found (IsCyclicTable recording.now)) }
 {
-    recording.sound();
-    forced_is_exact();
-    ordered_is_acyclic();
-    if let Some((load, store)) = overlook(recording) {
-        return Ok(Ok(Verdict::Overlook { load, store }));
-    }
-    let direct = Relation::direct(alloc, recording)?;
-    match build(alloc, &direct)? {
-        Some(order) => Ok(Ok(Verdict::Ordered(order))),
-        None => Ok(Err(direct.completed(recording))),
+    let places = Places::of(alloc, recording)?;
+    match first_order(alloc, &places)? {
+        FirstOrder::Order(order) => Ok(Ok(Verdict::Ordered(order))),
+        FirstOrder::Overlook(load, store) => Ok(Ok(Verdict::Overlook { load, store })),
+        FirstOrder::Cyclic(_) => Ok(Err(places.into_relation(alloc)?)),
     }
 }
 

@@ -5,7 +5,10 @@ use Rattle.recording.specs.EnumerationLaws.{missing}
 use Rattle.recording.specs.Execution.{Execution, event_count}
 use Rattle.recording.specs.Order.{Before, times}
 use Rattle.recording.specs.OrderLaws.{cases_times, times_in}
+use Rattle.recording.specs.Recording.{IsRecording}
 use Rattle.recording.specs.Tso.{IsWellFormed}
+use Rattle.relations.specs.Cycle.{IsCycle}
+use Rattle.relations.specs.CycleLaws.{cycle_of}
 use Rattle.relations.specs.Consistency.{HasNoOverlook}
 use Rattle.relations.specs.Forced.{Forced}
 use Rattle.relations.specs.ForcedLaws.{forced_within}
@@ -14,6 +17,8 @@ use Rattle.order.specs.Open.{IsOpen}
 use Rattle.order.proofs.Greedy.{IsBefore, IsGreedy, IsWithin, free_is_fresh, greedy_all, greedy_more, waits_for}
 use Rattle.order.proofs.Waits.{IsReleased, all_placed, open_more, waits_less}
 use Rattle.long.specs.Chains.{Chains, times_kept}
+use Rattle.long.specs.declared.sorting.Unsorted.{Unsorted}
+use Rattle.long.specs.Sorted.{IsLeft}
 use Rattle.long.specs.Steps.{IsStep}
 use Rattle.long.specs.Walks.{IsBlocked, IsOpenEvent}
 use Rattle.long.proofs.Follow.{all_follow}
@@ -73,7 +78,7 @@ module _ (p : Chains) (n : ℕ) (order counts : List ℕ) (g : IsGreedy (times_k
       )
 
 -- where no event is free each open one waits for one
-pub none_free : (p : Chains) (n : ℕ) (order counts : List ℕ) → IsOpen (times_kept p) n order counts
+none_free : (p : Chains) (n : ℕ) (order counts : List ℕ) → IsOpen (times_kept p) n order counts
     → ((e : ℕ) → e < length counts → get_or counts e 0 ≢ 1) → IsBlocked p counts
 none_free p n order counts o none e open' =
     let unplaced : times order e ≡ 0 = elim (cases_times order e) [
@@ -87,11 +92,32 @@ none_free p n order counts o none e open' =
     )
 
 -- and where not all are placed one is open
-pub one_left : (p : Chains) (n : ℕ) (order counts : List ℕ) → IsGreedy (times_kept p) n order
+one_left : (p : Chains) (n : ℕ) (order counts : List ℕ) → IsGreedy (times_kept p) n order
     → IsOpen (times_kept p) n order counts → length order < n → (e : ℕ) × IsOpenEvent counts e
 one_left p n order counts g o long =
     let left : (e : ℕ) × (e < n) × (times order e ≡ 0) = missing n order g.within long in
     (left.0, (omega (arith, left.1, o.size), omega (arith, o.waiting left.0 left.1 left.2)))
+
+-- the events that are left
+pub events_left : (x : Execution) → IsRecording x → (p : Chains) (order counts : List ℕ)
+    → ((d e : ℕ) → 0 < times_kept p d e → Forced x d e) → IsGreedy (times_kept p) (event_count x) order
+    → IsOpen (times_kept p) (event_count x) order counts
+    → ((e : ℕ) → e < length counts → get_or counts e 0 ≢ 1) → length order < event_count x
+    → IsLeft x (record { pairs = p; waiting = counts })
+events_left x is p order counts forced g o none long = record {
+  few = omega (arith, is.within.few_events, o.size);
+  within = λ d f some. omega (arith, (pairs_within x is.well_formed p forced d f some).1, o.size);
+  blocked = none_free p (event_count x) order counts o none;
+  some = one_left p (event_count x) order counts g o long;
+  forced = forced;
+}
+
+-- have a cycle
+pub left_cycle : (x : Execution) (l : Unsorted) → IsLeft x l → (c : List ℕ) × IsCycle (Forced x) c
+left_cycle x l is =
+    let found = cycle_of (Forced x) (IsOpenEvent l.waiting) (length l.waiting) (λ e u. u.0)
+    (λ e u. let before = is.blocked e u in (before.0, before.1, is.forced before.0 e before.2)) is.some.0 is.some.1 in
+    (found.0, found.1)
 
 -- the first order by pairs that are forced, from which all forced pairs follow, is the first of all
 pub first_order : (x : Execution) → IsWellFormed x → HasNoOverlook x → (p : Chains) (m : List ℕ)

@@ -1,4 +1,5 @@
 -- What is answered to a recording of any length.
+use Rattle.std.specs.Prelude.{ℕ, List}
 use Rattle.recording.specs.Execution.{Execution}
 use Rattle.recording.specs.Tso.{IsTsoOrder}
 use Rattle.relations.specs.Cycle.{IsCycle}
@@ -9,7 +10,17 @@ use Rattle.verdicts.specs.declared.verdict.Verdict.{Verdict}
 use Rattle.verdicts.specs.declared.verdict.Verdict.TheVariants as verdict
 use Rattle.long.specs.declared.answer.LongAnswer.{LongAnswer}
 use Rattle.long.specs.declared.answer.LongAnswer.TheVariants.{Order, Overlook, Cycle}
+use Rattle.long.specs.declared.first.FirstOrder.{FirstOrder}
+use Rattle.long.specs.declared.first.FirstOrder.TheVariants as first
 use Rattle.long.specs.Critical.{IsCritical}
+use Rattle.long.specs.Sorted.{IsLeft}
+
+-- the first memory order of TSO; or the least overlook, or, where no read overlooks a store, events that are left and a
+-- cycle of forced pairs, and no memory order of TSO explains the execution
+abbrev pub IsFirstOrder : Execution → FirstOrder → Type 0
+IsFirstOrder x (first.Order m) = IsOrderedVerdict x m.items
+IsFirstOrder x (first.Overlook l s) = IsLeastOverlook x l s × HasNoOrder x
+IsFirstOrder x (first.Cyclic l) = IsLeft x l × ((c : List ℕ) × IsCycle (Forced x) c) × HasNoOverlook x × HasNoOrder x
 
 -- the first memory order of TSO; or the least overlook, or, where no read overlooks a store, a cycle of forced pairs
 -- without a chord, and no memory order of TSO explains the execution

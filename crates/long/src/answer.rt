@@ -4,11 +4,11 @@ ghost use Rattle.std.specs.Prelude.{◌≡◌, IfOk};
 ghost use Rattle.long.specs.Answer.{IsLongAnswer, without_labels};
 
 use crate::cut::cut;
-use crate::newest::overlook;
-use crate::sorting::{Sorted, sort};
+use crate::first::{FirstOrder, first_order};
+use crate::walking::cycle_left;
 use common::{EventId, OutOfMemory};
 use labels::Certificate;
-use relations::{Places, forced_is_exact, ordered_is_acyclic};
+use relations::Places;
 use std::alloc::Global;
 use verdicts::Verdict;
 
@@ -31,15 +31,13 @@ pub enum LongAnswer {
 pub fn judge_long(alloc: Global, places: &Places<'_>) -> Result<LongAnswer, OutOfMemory>
     ensures { IfOk result (IsLongAnswer places.now) }
 {
-    places.sound();
-    forced_is_exact();
-    ordered_is_acyclic();
-    if let Some((load, store)) = overlook(alloc, places)? {
-        return Ok(LongAnswer::Overlook(load, store));
-    }
-    match sort(alloc, places)? {
-        Sorted::Ordered(order) => Ok(LongAnswer::Order(order)),
-        Sorted::Cyclic(cycle) => Ok(LongAnswer::Cycle(cut(alloc, places, &cycle)?)),
+    match first_order(alloc, places)? {
+        FirstOrder::Order(order) => Ok(LongAnswer::Order(order)),
+        FirstOrder::Overlook(load, store) => Ok(LongAnswer::Overlook(load, store)),
+        FirstOrder::Cyclic(left) => {
+            let cycle = cycle_left(alloc, &left.pairs, left.waiting.counts())?;
+            Ok(LongAnswer::Cycle(cut(alloc, places, &cycle)?))
+        }
     }
 }
 

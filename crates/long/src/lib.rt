@@ -3,6 +3,7 @@
 
 mod answer;
 mod cut;
+mod first;
 mod linking;
 mod newest;
 mod open;
@@ -13,4 +14,6 @@ mod waiting;
 mod walking;
 
 pub use answer::{LongAnswer, judge_long, without_labels};
+pub use first::{FirstOrder, first_order};
+pub use sorting::Unsorted;
 pub use text::{long_outcome, long_text};

@@ -1,27 +1,34 @@
-//! The first order of all events, or a cycle.
+//! The first order of all events, or events that are left.
 
 ghost use Rattle.std.specs.Prelude.{IfOk};
 ghost use Rattle.relations.specs.Consistency.{HasNoOverlook};
 ghost use Rattle.long.specs.Sorted.{IsSorted};
 
 use crate::linking::{Linked, link_all};
+use crate::pairs::Pairs;
 use crate::waiting::Waiting;
-use crate::walking::cycle_left;
 use common::{EventId, OutOfMemory};
 use relations::Places;
 use std::alloc::Global;
+
+/// Forced pairs, and events that are left open, each of which is the second of a pair of one of them.
+#[derive(Drop)]
+pub struct Unsorted {
+    pub(crate) pairs: Pairs,
+    pub(crate) waiting: Waiting,
+}
 
 /// What comes of sorting.
 #[derive(Drop)]
 pub(crate) enum Sorted {
     /// All events in order.
     Ordered(Vec<EventId>),
-    /// A cycle of forced pairs.
-    Cyclic(Vec<EventId>),
+    /// Some events are left, of which forced pairs have a cycle.
+    Blocked(Unsorted),
 }
 
-/// The first of the orders that have the forced pairs in order, where no read overlooks a store, or a cycle of forced
-/// pairs.
+/// The first of the orders that have the forced pairs in order, where no read overlooks a store, or the events that are
+/// left.
 pub(crate) fn sort(alloc: Global, places: &Places<'_>) -> Result<Sorted, OutOfMemory>
     ensures { IfOk result (λ sorted. HasNoOverlook places.now → IsSorted places.now sorted) }
 {
@@ -31,8 +38,7 @@ pub(crate) fn sort(alloc: Global, places: &Places<'_>) -> Result<Sorted, OutOfMe
     let mut order = Vec::with_capacity(alloc, places.len())?;
     for placed in 0..places.len() {
         let Some(event) = waiting.take() else {
-            let cycle = cycle_left(alloc, &pairs, waiting.counts())?;
-            return Ok(Sorted::Cyclic(cycle));
+            return Ok(Sorted::Blocked(Unsorted { pairs, waiting }));
         };
         order.push(event)?;
         waiting.place(&pairs, event)?;

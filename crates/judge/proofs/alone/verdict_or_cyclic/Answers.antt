@@ -1,43 +1,24 @@
-use Rattle.std.proofs.Common.{◌↔◌, ℕ, Option, Vec, List, Global, length, refl, subst}
-use Rattle.std.specs.Prelude.{IfSome, IsNone}
+use Rattle.std.proofs.Common.{◌≡◌, ◌↔◌, ℕ, length, subst}
+use Rattle.recording.specs.Execution.{Execution, event_count}
 use Rattle.relations.specs.Forced.{Forced}
-use Rattle.relations.specs.Cycle.{IsCycle}
-use Rattle.relations.specs.CycleLaws.{cycle_into}
 use Rattle.relations.specs.Relation.{Related}
-use Rattle.relations.specs.Respects.{IsLeastOrder}
-use Rattle.judge.proofs.Verdicts.{ordered_verdict}
+use Rattle.long.specs.Answer.{IsFirstOrder}
+use Rattle.long.specs.declared.first.FirstOrder.{FirstOrder}
+use Rattle.long.specs.declared.first.FirstOrder.TheVariants.{Cyclic}
 use Rattle.judge.proofs.alone.verdict_or_cyclic.Goals as goal
 
-pub returns-in-Some-2-clause-verdict : goal.returns-in-Some-2-clause-verdict
-returns-in-Some-2-clause-verdict c =
+pub returns-in_ok-into_relation-in-Cyclic-clause-cyclic : goal.returns-in_ok-into_relation-in-Cyclic-clause-cyclic
+returns-in_ok-into_relation-in-Cyclic-clause-cyclic c =
     let x = c.args.recording.now in
-    let t = c.in_ok-direct.direct in
-    ordered_verdict x t c.in_ok-direct.ensures.size c.in_ok-direct.ensures.forced
-    (c.in_ok-direct.ensures.enough c.in_default.ensures.none) (c.forced_is_exact.ensures.respects x)
-    (c.forced_is_exact.ensures.enough x) (c.ordered_is_acyclic.ensures.forced x) c.sound.ensures.well_formed
-    c.in_default.ensures.none c.in-Some-2.order.items
-    (subst (λ (o : Option (Vec _ Global)). IfSome o (λ v. IsLeastOrder (Related t) (length t) v.items))
-    c.in-Some-2.is c.in_ok-order.ensures.least)
-
-pub returns-in-Some-2-clause-verified : goal.returns-in-Some-2-clause-verified
-returns-in-Some-2-clause-verified c =
-    let x = c.args.recording.now in
-    let t = c.in_ok-direct.direct in
-    (ordered_verdict x t c.in_ok-direct.ensures.size c.in_ok-direct.ensures.forced
-    (c.in_ok-direct.ensures.enough c.in_default.ensures.none) (c.forced_is_exact.ensures.respects x)
-    (c.forced_is_exact.ensures.enough x) (c.ordered_is_acyclic.ensures.forced x) c.sound.ensures.well_formed
-    c.in_default.ensures.none c.in-Some-2.order.items
-    (subst (λ (o : Option (Vec _ Global)). IfSome o (λ v. IsLeastOrder (Related t) (length t) v.items))
-    c.in-Some-2.is c.in_ok-order.ensures.least)).order
-
-pub returns-in-None-clause-cyclic : goal.returns-in-None-clause-cyclic
-returns-in-None-clause-cyclic c =
-    let t = c.in_ok-direct.direct in
-    let cycle = (subst (λ (o : Option (Vec _ Global)). IsNone o ↔ ((d : List ℕ) × IsCycle (Related t) d))
-    c.in-None.is c.in_ok-order.ensures.cycle).0 refl in
+    let of : c.in_ok-places.places ≡ x = c.in_ok-places.ensures in
+    let t = c.in_ok-into_relation-in-Cyclic.field-0 in
+    let found : IsFirstOrder x (Cyclic c.in-Cyclic.field-0) =
+    subst (λ (y : Execution). IsFirstOrder y (Cyclic c.in-Cyclic.field-0)) of
+    (subst (λ (o : FirstOrder). IsFirstOrder c.in_ok-places.places o) c.in-Cyclic.is c.in_ok-order.ensures) in
     record {
-      size = c.completed.ensures.size;
-      forced = c.completed.ensures.related;
-      cycle = (cycle.0, cycle_into (Related t) (Forced c.args.recording.now) c.in_ok-direct.ensures.forced cycle.0 cycle.1);
-      no_overlook = c.in_default.ensures.none;
+      size = subst (λ (y : Execution). length t ≡ event_count y) of c.in_ok-into_relation-in-Cyclic.ensures.size;
+      forced = subst (λ (y : Execution). (e f : ℕ) → Related t e f ↔ Forced y e f) of
+          c.in_ok-into_relation-in-Cyclic.ensures.related;
+      cycle = found.1;
+      no_overlook = found.2;
     }
