@@ -17,7 +17,7 @@ use Rattle.command_line.specs.declared.options.Misfit.TheVariants.{EachWithShow,
 use Rattle.command_line.specs.declared.options.Misfit.TheVariants.{StatesWithoutComplete}
 use Rattle.command_line.specs.declared.options.Misfit.TheVariants.{HeaderWithComplete, HeaderWithEach, HeaderWithoutLines}
 use Rattle.command_line.specs.declared.options.Misfit.TheVariants.{RunsWithSteps, TwoQuestions, UnseenWithoutObserved, WhyWithoutObserved}
-use Rattle.command_line.specs.declared.options.Misfit.TheVariants.{ProgramWithLong, WorkersWithLong, WorkersWithoutRuns}
+use Rattle.command_line.specs.declared.options.Misfit.TheVariants.{CompleteWithLong, ProgramWithLong, ReduceWithLong, WorkersWithLong, WorkersWithoutRuns}
 use Rattle.command_line.specs.declared.options.Misfit.TheVariants.{CycleWithAll, ForbiddenWithoutAll, NoCycle}
 use Rattle.command_line.specs.declared.options.TheConstants.{DEFAULT_FAULT}
 use Rattle.command_line.specs.declared.table.Takes.{Takes}
@@ -149,11 +149,15 @@ make_misfit rows =
     else (if makes rows && not (is_some (cycles_of rows)) && (given (codes "WORD") rows == 0) then Some NoCycle
     else (if is_given (codes "forbidden") rows && not (is_some (cycles_of rows)) then Some ForbiddenWithoutAll else None))
 
--- what doesn't go together with --long: --workers, or --program
+-- what doesn't go together with --long: --complete, --reduce, --workers but of survey, or --program
 abbrev pub long_misfit : List Row → Option Misfit
 long_misfit rows =
-    if is_some (one_of (codes "workers") rows) && is_given (codes "long") rows then Some WorkersWithLong
-    else (if is_given (codes "long") rows && not (given (codes "program") rows == 0) then Some ProgramWithLong else None)
+    if is_given (codes "long") rows && is_given (codes "complete") rows then Some CompleteWithLong
+    else (if is_given (codes "long") rows && is_given (codes "reduce") rows then Some ReduceWithLong
+    else (if is_given (codes "long") rows && is_some (one_of (codes "workers") rows) && not (surveys_recordings rows)
+    then Some WorkersWithLong
+    else (if is_given (codes "long") rows && not (given (codes "program") rows == 0) then Some ProgramWithLong
+    else None)))
 
 -- the options that don't go together: --each or --header with --show, or --reduce without it, or those of survey, of outcomes, of runs,
 -- of make or with --long

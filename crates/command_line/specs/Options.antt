@@ -189,6 +189,7 @@ pub record AreSurveyOptions (o : SurveyOptions) (rows : List Row) : Type 0 where
   pub reduce : o.reduce ≡ is_given (codes "reduce") rows
   pub workers : IsNumber (codes "workers") WORKERS rows o.workers
   pub quiet : o.quiet ≡ is_given (codes "quiet") rows
+  pub long : o.long ≡ is_given (codes "long") rows
   pub complete : IsCompletionAsked o.complete rows
   pub from : IsNumber (codes "from") FROM rows o.from
   pub lines : AreLines o.lines rows

@@ -39,10 +39,10 @@ N8   the addresses are not numbered by first use (the first address that an even
 N9   the recording is not one of the program (cores, operations, values written and initial values are to be those of the program that was run)
 
 Of texts of campaigns or surveys, whose lines are counted from 1, with the name of the file:
-M1   line N is no line of such a text (it has each line that `trials` or `survey` prints, whole; lengths of cycles ascend, up to 512, and each has a count)
+M1   line N is no line of such a text (it has each line that `trials` or `survey` prints, whole; lengths of cycles ascend, up to 512, then comes `over 512`, and each has a count)
 M2   line N begins a text that no list of outcomes has (its counts add up, and after the first of a kind there is room for all of it)
 M3   line N begins a text of the other kind than the first (all are those of campaigns, or all those of surveys)
-M4   line N begins a text of another campaign (all options of headers but `--seed` and `--trials` are those of the first)
+M4   line N begins a text of another campaign (all options of headers but `--seed` and `--trials`, or `--from` and `--lines`, are those of the first)
 M5   seeds or lines N are in no text (texts with headers follow each other; with `--partial` some may be missing)
 M6   seeds or lines N are in two texts (each is counted once)
 M7   line N begins a text with which there are 2^64 or more (a count has 64 bits)

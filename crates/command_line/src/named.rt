@@ -153,6 +153,7 @@ fn survey_options(
         reduce: values.reduce,
         workers: values.workers,
         quiet: values.quiet,
+        long: values.long,
         complete: completion_asked(values),
         from: values.from,
         lines: values.lines,

@@ -237,6 +237,8 @@ pub struct SurveyOptions {
     pub workers: usize,
     /// Whether no progress is shown.
     pub quiet: bool,
+    /// Whether recordings are judged within the large limits.
+    pub long: bool,
     /// Where the lines are values that are completed, how many states are looked at at most for each, 1 to 2^32 - 1.
     pub complete: Option<usize>,
     /// The number of the first line that is surveyed, from 1.
@@ -380,6 +382,10 @@ pub enum Misfit {
     RunsWithSteps,
     /// `--workers` of `run` share the runs of `--runs`.
     WorkersWithoutRuns,
+    /// `--long` takes large recordings, and `--complete` takes values.
+    CompleteWithLong,
+    /// `--long` shows the answer to a recording whole, and `--reduce` shows what is left of one.
+    ReduceWithLong,
     /// `--long` needs no thread, and `--workers` shares work among some.
     WorkersWithLong,
     /// A program names the addresses of a recording that is no larger, and `--long` takes larger ones.
@@ -444,6 +450,12 @@ impl Display for Misfit {
                 f.write_str(
                     "error: the following required arguments were not provided:\n  --runs <N>",
                 )?;
+            }
+            Misfit::CompleteWithLong => {
+                f.write_str("error: the argument '--complete' cannot be used with '--long'")?;
+            }
+            Misfit::ReduceWithLong => {
+                f.write_str("error: the argument '--reduce' cannot be used with '--long'")?;
             }
             Misfit::WorkersWithLong => {
                 f.write_str("error: the argument '--workers <N>' cannot be used with '--long'")?;

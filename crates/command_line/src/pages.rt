@@ -312,6 +312,9 @@ no others. Lines are numbered from 1, the empty ones among them. So one file is 
 several commands; with `--header`, which asks for `--lines`, each one's first line says which
 lines it counts, and `merge` adds them up.
 
+With `--long` a recording may have as much as with `judge --long`, which judges it. The
+cycle that it finds counts with its length, or in `cycle over 512: N`, after all `cycle K`.
+
 With `--complete` each line has values alone, as `complete` reads them. It prints
 `recordings N`, how many there are; `ordered N`, how many TSO allows; `impossible N`, how
 many it does not; `unfinished N`, for how many there are more states than `--states` allows;

@@ -248,6 +248,13 @@ const LONG_RECORDING: ArgumentRow = ArgumentRow {
     help: "Takes up to 16777216 events of 1024 cores over 65536 addresses; not with --program",
 };
 
+const LONG_LINES: ArgumentRow = ArgumentRow {
+    name: "long",
+    takes: Takes::Nothing,
+    value: "",
+    help: "Takes recordings as `judge --long` does; not with --complete or --reduce",
+};
+
 const HEADER: ArgumentRow = ArgumentRow {
     name: "header",
     takes: Takes::Nothing,
@@ -422,6 +429,7 @@ pub const COMMANDS: &[CommandRow] = &[
             REDUCE,
             COMPLETE,
             STATES,
+            LONG_LINES,
             HEADER,
             QUIET,
             WORDS,

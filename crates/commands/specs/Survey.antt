@@ -2,7 +2,8 @@
 use Rattle.std.specs.Prelude.{◌≡◌, ◌≢◌, ◌≤◌, ◌^◌, ◌++◌, ◌∷◌, [], ℕ, Bool, List, Option, None, Some, true, false}
 use Rattle.std.specs.Prelude.{codes}
 use Rattle.std.specs.Prelude.{IfSome, if◌then◌else◌, length, option_map, string_bytes, ⊤}
-use Rattle.headers.specs.declared.header.Counted.TheVariants.{Survey}
+use Rattle.headers.specs.declared.header.Counted.TheVariants.{LongSurvey, Survey}
+use Rattle.headers.specs.declared.header.Counted.{Counted}
 use Rattle.headers.specs.declared.header.Header.{Header}
 use Rattle.std.specs.Io.KnownBytes.{Appends}
 use Rattle.command_line.specs.declared.options.SurveyOptions.{SurveyOptions}
@@ -10,7 +11,7 @@ use Rattle.ledger.specs.declared.finding.Finding.{Finding}
 use Rattle.ledger.specs.declared.survey_ledger.SurveyLedger.{SurveyLedger}
 use Rattle.ledger.specs.Surveyed.{IsSurveyLedger}
 use Rattle.surveys.specs.declared.kind.LineKind.{LineKind}
-use Rattle.surveys.specs.declared.kind.LineKind.TheVariants.{Recording, Values}
+use Rattle.surveys.specs.declared.kind.LineKind.TheVariants.{LongRecording, Recording, Values}
 use Rattle.surveys.specs.Found.{AreFindings, codes_of}
 use Rattle.surveys.specs.declared.range.LineRange.{LineRange}
 use Rattle.surveys.specs.Ranges.{lines_in}
@@ -20,6 +21,7 @@ use Rattle.ledger.specs.Counted.{survey_text, values_survey_text}
 use Rattle.verdicts.specs.declared.printed.Answer.{Answer}
 use Rattle.verdicts.specs.declared.outcome.Outcome.{Outcome}
 use Rattle.verdicts.specs.declared.outcome.Outcome.TheVariants as out
+use Rattle.report.specs.Answer.{IsLongAnswerOf}
 use Rattle.answers.specs.Campaign.{ledger_outcome}
 use Rattle.answers.specs.Survey.{IsLineAnswer, empty_line, values_outcome}
 use Rattle.inputs.specs.declared.command_error.CommandError.{CommandError}
@@ -33,10 +35,11 @@ use Rattle.commands.specs.Headed.{IsHeaded}
 abbrev pub TellsEach : SurveyOptions → Type 0
 TellsEach o = (o.each ≡ true) × (o.show ≡ None)
 
--- what the lines are: recordings, or with --complete values, of which each may have this many states
-abbrev pub line_kind : Option ℕ → LineKind
-line_kind None = Recording
-line_kind (Some states) = Values states
+-- what the lines are: recordings, with --long within the large limits, or with --complete values, of which each may have
+-- this many states
+abbrev pub line_kind : Bool → Option ℕ → LineKind
+line_kind long None = if long then LongRecording else Recording
+line_kind long (Some states) = Values states
 
 -- the counts of such lines, as a text
 abbrev pub counts_text : Option ℕ → SurveyLedger → List ℕ
@@ -62,20 +65,24 @@ range_of o = record { first = o.from; count = o.lines }
 abbrev pub AreLinesOf : (List ℕ → Option (List ℕ)) → SurveyOptions → List (List ℕ) → Type 0
 AreLinesOf inputs o all = IfSome (inputs (string_bytes o.file)) (λ bytes. all ≡ lines_in (range_of o) bytes)
 
+-- whose counts a header is
+abbrev pub lines_counted : Bool → Counted
+lines_counted long = if long then LongSurvey else Survey
+
 -- the header of counts of so many lines at most from the first on
-abbrev pub header_of_lines : ℕ → ℕ → Header
-header_of_lines first count = record { counted = Survey; first = first; count = count }
+abbrev pub header_of_lines : Bool → ℕ → ℕ → Header
+header_of_lines long first count = record { counted = lines_counted long; first = first; count = count }
 
 -- the header of the counts of lines, where one is asked for; the number of lines is then asked for, too
 abbrev pub survey_header : SurveyOptions → Option Header
-survey_header o = if o.header then option_map (header_of_lines o.from) o.lines else None
+survey_header o = if o.header then option_map (header_of_lines o.long o.from) o.lines else None
 
 -- what is found in the lines of the named input, in order, and what is counted of their codes
 pub record IsSurveyed (inputs : List ℕ → Option (List ℕ)) (o : SurveyOptions) (findings : List Finding)
     (ledger : SurveyLedger) : Type 0 where
   pub all : List (List ℕ)
   pub given : AreLinesOf inputs o all
-  pub found : AreFindings (line_kind o.complete) all findings
+  pub found : AreFindings (line_kind o.long o.complete) all findings
   pub counted : IsSurveyLedger (codes_of findings) ledger
 
 -- a line of each was written, an empty line, and their counts
@@ -88,13 +95,18 @@ pub record IsEachWritten (inputs : List ℕ → Option (List ℕ)) (o : SurveyOp
   pub outcome_is : outcome ≡ counts_outcome o.complete ledger
   pub written : Appends before after (each_text 0 findings ++ 10 ∷ counts_text o.complete ledger)
 
+-- what is answered to one recording: as by judge --long, or by judge, or by reduce
+abbrev pub IsShown : Bool → Bool → List ℕ → Answer → Type 0
+IsShown true reduce line answer = IsLongAnswerOf line answer
+IsShown false reduce line answer = IsLineAnswer reduce line answer
+
 -- the answer of survey, where no recording is reported, by the one that is to be shown
 abbrev pub IsSurveyOf : (List ℕ → Option (List ℕ)) → SurveyOptions → Option ℕ → Answer → Type 0
 IsSurveyOf inputs o None answer = (o.each ≢ true) × (findings : List Finding) × (ledger : SurveyLedger)
     × IsSurveyed inputs o findings ledger × (counts : Answer) × IsCountsAnswer o.complete false ledger counts
     × IsHeaded (survey_header o) counts answer
 IsSurveyOf inputs o (Some k) answer = (all : List (List ℕ)) × AreLinesOf inputs o all × (line : List ℕ)
-    × IsLineAmong all k line × IsLineAnswer o.reduce line answer
+    × IsLineAmong all k line × IsShown o.long o.reduce line answer
 
 -- the named input has no recording of the number that is asked for
 abbrev pub IsPastTheEnd : (List ℕ → Option (List ℕ)) → SurveyOptions → Option ℕ → Type 0

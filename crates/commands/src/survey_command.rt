@@ -4,8 +4,8 @@ ghost use Rattle.std.specs.Io.KnownBytes.{Appends};
 ghost use Rattle.devices.specs.Bytes.{CanGrow, CountsBy};
 ghost use Rattle.surveys.specs.Surveys.{told_text};
 ghost use Rattle.inputs.specs.Inputs.{CanRead, ReadsNamed, ReadsInput, command_failed_writes};
-ghost use Rattle.commands.specs.Survey.{IsCountsAnswer, IsEachError, IsEachWritten, IsSurveyed, IsSurveyOf};
-ghost use Rattle.commands.specs.Survey.{IsSurveyStop, TellsEach, line_kind, range_of, survey_header};
+ghost use Rattle.commands.specs.Survey.{IsCountsAnswer, IsEachError, IsEachWritten, IsShown, IsSurveyed, IsSurveyOf};
+ghost use Rattle.commands.specs.Survey.{IsSurveyStop, TellsEach, line_kind, lines_counted, range_of, survey_header};
 
 use crate::headed::headed;
 use crate::output::put;
@@ -15,19 +15,42 @@ use common::OutOfMemory;
 use devices::{Host, MemorySink, Sink};
 use headers::{Counted, Header};
 use inputs::{CommandError, CommandStop, opened};
-use report::{Answer, Outcome};
+use report::{Answer, Outcome, long_answer};
 use std::alloc::Global;
 use std::sync::Wait;
 use std::thread::Threads;
 use surveys::{Finding, LineKind, LineRange, LinesOf, SurveyError, SurveyLedger, line_of, survey};
 
 /// What the lines are.
-fn line_kind(complete: Option<usize>) -> LineKind
-    ensures { result ≡ line_kind complete }
+fn line_kind(long: bool, complete: Option<usize>) -> LineKind
+    ensures { result ≡ line_kind long complete }
 {
     match complete {
         Some(states) => LineKind::Values(states),
+        None if long => LineKind::LongRecording,
         None => LineKind::Recording,
+    }
+}
+
+/// Whose counts a header is.
+fn lines_counted(long: bool) -> Counted
+    ensures { result ≡ lines_counted long }
+{
+    if long {
+        Counted::LongSurvey
+    } else {
+        Counted::Survey
+    }
+}
+
+/// What is answered to one recording.
+fn shown(alloc: Global, long: bool, reduce: bool, line: &[u8]) -> Result<Answer, OutOfMemory>
+    ensures { IfOk result (IsShown long reduce line.now) }
+{
+    if long {
+        long_answer(alloc, line)
+    } else {
+        line_answer(alloc, line, reduce)
     }
 }
 
@@ -68,7 +91,7 @@ fn survey_header(options: &SurveyOptions) -> Option<Header>
         _ => return None,
     };
     Some(Header {
-        counted: Counted::Survey,
+        counted: lines_counted(options.long),
         first: options.from as u64,
         count: count as u64,
     })
@@ -96,7 +119,7 @@ fn counted<R: Threads + Wait + Sync, H: Host, W: Sink>(
     let input = opened(alloc, host, options.file.as_str())?;
     let mut lines = LinesOf::new(input, range_of(options));
     let progress = host.progress(None, options.quiet);
-    let kind = line_kind(options.complete);
+    let kind = line_kind(options.long, options.complete);
     let surveyed = survey(
         rt,
         alloc,
@@ -161,7 +184,7 @@ pub fn survey_command<R: Threads + Wait + Sync, H: Host>(
             let line = line_of(alloc, &mut lines, k);
             host.take_back(lines.into_source());
             match line {
-                Ok(Some(line)) => Ok(line_answer(alloc, line.as_slice(), options.reduce)?),
+                Ok(Some(line)) => Ok(shown(alloc, options.long, options.reduce, line.as_slice())?),
                 Ok(None) => Err(CommandStop::of_line(alloc, "refused: K11\n")),
                 Err(SurveyError::ReadFailed) => Err(CommandStop::Failed(CommandError::ReadFailed)),
                 Err(SurveyError::WriteFailed) => unreachable!(),

@@ -1,11 +1,11 @@
 -- Headers of counts: the commands that print them.
-use Rattle.std.specs.Prelude.{◌≡◌, ◌<◌, ◌≤◌, ◌+◌, ◌++◌, ◌∷◌, ◌^◌, [], ℕ, List, codes, decimal, ⊤}
+use Rattle.std.specs.Prelude.{◌<◌, ◌≤◌, ◌++◌, ◌∷◌, ◌^◌, [], ℕ, List, codes, decimal}
 use Rattle.common.specs.declared.limits.TheConstants.{MAX_CAPACITY, MAX_STEPS}
 use Rattle.program.specs.Shapes.{IsShape}
 use Rattle.machine.specs.declared.fault.Fault.{Fault}
 use Rattle.campaign.specs.Campaigns.{Plan}
 use Rattle.headers.specs.declared.header.Counted.{Counted}
-use Rattle.headers.specs.declared.header.Counted.TheVariants.{Campaign, Survey}
+use Rattle.headers.specs.declared.header.Counted.TheVariants.{Campaign, Survey, LongSurvey}
 use Rattle.headers.specs.declared.header.Header.{Header}
 use Rattle.headers.specs.declared.header.Setup.{Setup}
 use Rattle.headers.specs.Faults.{fault_name}
@@ -38,11 +38,13 @@ campaign_words s = size_words s ++ machine_words s
 abbrev pub counted_words : Counted → List ℕ
 counted_words (Campaign s) = campaign_words s
 counted_words Survey = codes "# tsotest survey --from "
+counted_words LongSurvey = codes "# tsotest survey --long --from "
 
 -- the name of the option of how many there are
 abbrev pub count_name : Counted → List ℕ
 count_name (Campaign s) = codes " --trials "
 count_name Survey = codes " --lines "
+count_name LongSurvey = codes " --lines "
 
 -- the line of a header
 abbrev pub header_line : Header → List ℕ
@@ -58,6 +60,7 @@ pub record IsSetup (s : Setup) : Type 0 where
 abbrev pub CanBegin : Counted → ℕ → Type 0
 CanBegin (Campaign s) first = IsSetup s
 CanBegin Survey first = 0 < first
+CanBegin LongSurvey first = 0 < first
 
 -- a header of some trials or lines
 pub record IsHeader (h : Header) : Type 0 where

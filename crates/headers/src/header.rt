@@ -34,6 +34,8 @@ pub enum Counted {
     Campaign(Setup),
     /// Recordings of a survey.
     Survey,
+    /// Recordings of a survey within the large limits.
+    LongSurvey,
 }
 
 /// What is counted, and which of them.
@@ -124,6 +126,7 @@ fn put_counted(out: &mut Vec<u8>, counted: &Counted) -> Result<(), OutOfMemory>
     match counted {
         Counted::Campaign(setup) => put_campaign(out, setup),
         Counted::Survey => put_text(out, b"# tsotest survey --from "),
+        Counted::LongSurvey => put_text(out, b"# tsotest survey --long --from "),
     }
 }
 
@@ -134,6 +137,7 @@ pub fn count_name(counted: &Counted) -> &'static [u8]
     match counted {
         Counted::Campaign(_) => b" --trials ",
         Counted::Survey => b" --lines ",
+        Counted::LongSurvey => b" --lines ",
     }
 }
 

@@ -1,5 +1,5 @@
 -- Lemmas on counts: those that add up, with first places that fit them, are those of some codes, and all others of none.
-use Rattle.std.proofs.Common.{◌≡◌, ◌≢◌, ◌+◌, ◌*◌, ◌-◌, ◌<◌, ◌≤◌, ◌==◌, ℕ, zero, suc, Bool, true, false, cond}
+use Rattle.std.proofs.Common.{◌≡◌, ◌+◌, ◌*◌, ◌-◌, ◌<◌, ◌≤◌, ℕ, zero, suc, Bool, true, false, cond}
 use Rattle.std.proofs.Common.{List, [], ◌∷◌, ◌++◌, Option, None, Some, arith, refl, sym, ap, subst, ◌∙◌, inl, inr}
 use Rattle.std.proofs.Common.{length, length-append, get_or, take, drop, take_all, sum, count_by, position}
 use Rattle.std.proofs.Common.{eq-eqb, ne_eqb, ◌⊎◌}
@@ -9,8 +9,7 @@ use Rattle.std.proofs.lemmas.Bool.Decides.{nat_tests}
 use Rattle.std.proofs.lemmas.List.{length-replicate, length-take-le, take-append-drop}
 use Rattle.std.proofs.lemmas.List.Folds.{sum_by-replicate}
 use Rattle.std.proofs.lemmas.List.Sums.{count_by-le-length, sum_by_more}
-use Rattle.common.specs.declared.limits.TheConstants.{MAX_EVENTS}
-use Rattle.ledger.specs.declared.code.TheConstants.{CYCLE, ORDERED, OVERLOOK, UNFINISHED}
+use Rattle.ledger.specs.declared.code.TheConstants.{CYCLE, LONG_CYCLE, ORDERED, OVERLOOK, UNFINISHED}
 use Rattle.ledger.specs.Kinds.{is_ordered, is_unjudged, is_overlook, is_cycle_of, is_violation}
 use Rattle.ledger.specs.Joined.{first_of}
 use Rattle.ledger.specs.Real.{AreApart, EveryFittingLedgerHasCodes, EveryLedgerFits, IsFirstOf, violation_count}
@@ -206,8 +205,8 @@ length_cycles counts (suc m) within =
     ))
 
 -- what the codes of cycles don't pass
-cycles_fail : (p : ℕ → Bool) → ((n : ℕ) → n ≤ MAX_EVENTS → p (CYCLE + n) ≡ false) → (counts : List ℕ) (m : ℕ)
-    → m ≤ MAX_EVENTS + 1 → count_by p (cycle_codes counts m) ≡ 0
+cycles_fail : (p : ℕ → Bool) → ((n : ℕ) → n ≤ LONG_CYCLE → p (CYCLE + n) ≡ false) → (counts : List ℕ) (m : ℕ)
+    → m ≤ LONG_CYCLE + 1 → count_by p (cycle_codes counts m) ≡ 0
 unfolding cycle_codes
 cycles_fail p fails counts zero within = refl
 cycles_fail p fails counts (suc m) within = omega (
@@ -218,8 +217,8 @@ cycles_fail p fails counts (suc m) within = omega (
 )
 
 -- what they pass
-cycles_pass : (p : ℕ → Bool) → ((n : ℕ) → n ≤ MAX_EVENTS → p (CYCLE + n) ≡ true) → (counts : List ℕ) (m : ℕ)
-    → m ≤ MAX_EVENTS + 1 → count_by p (cycle_codes counts m) ≡ length (cycle_codes counts m)
+cycles_pass : (p : ℕ → Bool) → ((n : ℕ) → n ≤ LONG_CYCLE → p (CYCLE + n) ≡ true) → (counts : List ℕ) (m : ℕ)
+    → m ≤ LONG_CYCLE + 1 → count_by p (cycle_codes counts m) ≡ length (cycle_codes counts m)
 unfolding cycle_codes
 cycles_pass p passes counts zero within = refl
 cycles_pass p passes counts (suc m) within = omega (
@@ -470,20 +469,20 @@ placed p q os bs cs n (Some i) (Some j) k all first second apart = elim (cases_l
 -- ---- the codes of a ledger
 
 -- of a cycle
-cycle_violates : (n : ℕ) → n ≤ MAX_EVENTS → is_violation (CYCLE + n) ≡ true
+cycle_violates : (n : ℕ) → n ≤ LONG_CYCLE → is_violation (CYCLE + n) ≡ true
 cycle_violates n within = grind (arith, nat_tests)
 
-cycle_judged : (n : ℕ) → n ≤ MAX_EVENTS → is_unjudged (CYCLE + n) ≡ false
+cycle_judged : (n : ℕ) → n ≤ LONG_CYCLE → is_unjudged (CYCLE + n) ≡ false
 cycle_judged n within = grind (arith, nat_tests)
 
-cycle_unordered : (n : ℕ) → n ≤ MAX_EVENTS → is_ordered (CYCLE + n) ≡ false
+cycle_unordered : (n : ℕ) → n ≤ LONG_CYCLE → is_ordered (CYCLE + n) ≡ false
 cycle_unordered n within = grind (arith, nat_tests)
 
-cycle_no_overlook : (n : ℕ) → n ≤ MAX_EVENTS → is_overlook (CYCLE + n) ≡ false
+cycle_no_overlook : (n : ℕ) → n ≤ LONG_CYCLE → is_overlook (CYCLE + n) ≡ false
 cycle_no_overlook n within = grind (arith, nat_tests)
 
 -- no code of an overlook, of an order or of an unfinished run is that of a cycle
-overlook_no_cycle : (n : ℕ) → n ≤ MAX_EVENTS → is_cycle_of n OVERLOOK ≡ false
+overlook_no_cycle : (n : ℕ) → n ≤ LONG_CYCLE → is_cycle_of n OVERLOOK ≡ false
 overlook_no_cycle n within = ne_eqb _ _ (λ e. omega (arith, e, within))
 
 ordered_no_cycle : (n : ℕ) → is_cycle_of n ORDERED ≡ false
@@ -494,23 +493,23 @@ unfinished_no_cycle n = ne_eqb _ _ (λ e. omega (arith, e))
 
 -- the violations: overlooks, and cycles of each length
 violation_codes : ℕ → List ℕ → List ℕ
-violation_codes overlook counts = replicate overlook OVERLOOK ++ cycle_codes counts (MAX_EVENTS + 1)
+violation_codes overlook counts = replicate overlook OVERLOOK ++ cycle_codes counts (LONG_CYCLE + 1)
 
 -- a count of them
 count_violations : (p : ℕ → Bool) (overlook : ℕ) (counts : List ℕ) → count_by p (violation_codes overlook counts)
-    ≡ count_by p (replicate overlook OVERLOOK) + count_by p (cycle_codes counts (MAX_EVENTS + 1))
+    ≡ count_by p (replicate overlook OVERLOOK) + count_by p (cycle_codes counts (LONG_CYCLE + 1))
 unfolding violation_codes
-count_violations p overlook counts = count_append p (replicate overlook OVERLOOK) (cycle_codes counts (MAX_EVENTS + 1))
+count_violations p overlook counts = count_append p (replicate overlook OVERLOOK) (cycle_codes counts (LONG_CYCLE + 1))
 
-length_violations : (overlook : ℕ) (counts : List ℕ) → length counts ≡ MAX_EVENTS + 1
+length_violations : (overlook : ℕ) (counts : List ℕ) → length counts ≡ LONG_CYCLE + 1
     → length (violation_codes overlook counts) ≡ overlook + sum counts
 unfolding violation_codes
 length_violations overlook counts size = omega (
   arith,
-  length-append (replicate overlook OVERLOOK) (cycle_codes counts (MAX_EVENTS + 1)),
+  length-append (replicate overlook OVERLOOK) (cycle_codes counts (LONG_CYCLE + 1)),
   length-replicate {A = ℕ} overlook OVERLOOK,
-  length_cycles counts (MAX_EVENTS + 1) (omega (arith, size)),
-  ap (λ (l : List ℕ). sum l) (take_all (MAX_EVENTS + 1) counts (omega (arith, size))),
+  length_cycles counts (LONG_CYCLE + 1) (omega (arith, size)),
+  ap (λ (l : List ℕ). sum l) (take_all (LONG_CYCLE + 1) counts (omega (arith, size))),
 )
 
 -- they are all violations
@@ -521,8 +520,8 @@ violation_all overlook counts = omega (
   arith,
   count_violations is_violation overlook counts,
   count_replicate_yes is_violation overlook OVERLOOK refl,
-  cycles_pass is_violation cycle_violates counts (MAX_EVENTS + 1) (omega arith),
-  length-append (replicate overlook OVERLOOK) (cycle_codes counts (MAX_EVENTS + 1)),
+  cycles_pass is_violation cycle_violates counts (LONG_CYCLE + 1) (omega arith),
+  length-append (replicate overlook OVERLOOK) (cycle_codes counts (LONG_CYCLE + 1)),
   length-replicate {A = ℕ} overlook OVERLOOK,
 )
 
@@ -544,7 +543,7 @@ fitting_has_codes l size sums fits =
         arith,
         count_violations is_unjudged l.overlook counts,
         count_replicate_no is_unjudged l.overlook OVERLOOK refl,
-        cycles_fail is_unjudged cycle_judged counts (MAX_EVENTS + 1) (omega arith),
+        cycles_fail is_unjudged cycle_judged counts (LONG_CYCLE + 1) (omega arith),
       );
       all_second = count_replicate_yes is_unjudged l.unjudged UNFINISHED refl ∙ sym unjudged;
       none_first = count_replicate_no is_violation l.unjudged UNFINISHED refl;
@@ -577,7 +576,7 @@ fitting_has_codes l size sums fits =
           count_replicate_yes is_ordered l.ordered ORDERED refl,
           count_violations is_ordered l.overlook counts,
           count_replicate_no is_ordered l.overlook OVERLOOK refl,
-          cycles_fail is_ordered cycle_unordered counts (MAX_EVENTS + 1) (omega arith),
+          cycles_fail is_ordered cycle_unordered counts (LONG_CYCLE + 1) (omega arith),
           count_replicate_no is_ordered l.unjudged UNFINISHED refl,
         );
         unjudged = omega (
@@ -593,7 +592,7 @@ fitting_has_codes l size sums fits =
           count_replicate_no is_overlook l.ordered ORDERED refl,
           count_violations is_overlook l.overlook counts,
           count_replicate_yes is_overlook l.overlook OVERLOOK refl,
-          cycles_fail is_overlook cycle_no_overlook counts (MAX_EVENTS + 1) (omega arith),
+          cycles_fail is_overlook cycle_no_overlook counts (LONG_CYCLE + 1) (omega arith),
           count_replicate_no is_overlook l.unjudged UNFINISHED refl,
         );
         lengths = size;
@@ -603,7 +602,7 @@ fitting_has_codes l size sums fits =
           count_replicate_no (is_cycle_of n) l.ordered ORDERED (ordered_no_cycle n),
           count_violations (is_cycle_of n) l.overlook counts,
           count_replicate_no (is_cycle_of n) l.overlook OVERLOOK (overlook_no_cycle n within),
-          cycles_counted n counts (MAX_EVENTS + 1) (omega (arith, within)),
+          cycles_counted n counts (LONG_CYCLE + 1) (omega (arith, within)),
           count_replicate_no (is_cycle_of n) l.unjudged UNFINISHED (unfinished_no_cycle n),
         );
         first = sym a.first;

@@ -1,6 +1,7 @@
 -- The texts of ledgers.
 use Rattle.std.specs.Prelude.{◌++◌, ◌∷◌, [], ◌==◌, ℕ, zero, suc, List, Option, None, Some, codes, decimal, length}
-use Rattle.std.specs.Prelude.{slice_index, if◌then◌else◌}
+use Rattle.std.specs.Prelude.{slice_index, if◌then◌else◌, nat_lt}
+use Rattle.ledger.specs.declared.code.TheConstants.{LONG_CYCLE}
 use Rattle.ledger.specs.declared.ledger.Ledger.{Ledger}
 use Rattle.ledger.specs.declared.survey_ledger.SurveyLedger.{SurveyLedger}
 
@@ -8,11 +9,15 @@ use Rattle.ledger.specs.declared.survey_ledger.SurveyLedger.{SurveyLedger}
 abbrev pub count_line : List ℕ → ℕ → List ℕ
 count_line name count = name ++ 32 ∷ (decimal count ++ 10 ∷ [])
 
+-- a length of cycles, or that it stands for all that are longer than a program
+abbrev pub length_name : ℕ → List ℕ
+length_name cycle = if nat_lt cycle LONG_CYCLE then decimal cycle else codes "over 512"
+
 -- the line of a length of cycles and how many recordings have one, unless none has
 abbrev pub cycle_line : ℕ → ℕ → List ℕ
 cycle_line cycle count =
     if count == 0 then []
-    else codes "cycle " ++ decimal cycle ++ codes ": " ++ decimal count ++ 10 ∷ []
+    else codes "cycle " ++ length_name cycle ++ codes ": " ++ decimal count ++ 10 ∷ []
 
 -- the lines of the lengths below n
 unfoldable pub cycle_lines : List ℕ → ℕ → List ℕ

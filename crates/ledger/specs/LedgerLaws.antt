@@ -9,8 +9,7 @@ use Rattle.std.proofs.lemmas.Bool.Decides.{nat_tests}
 use Rattle.std.proofs.lemmas.List.{ext_get_or}
 use Rattle.std.proofs.lemmas.List.Sums.{sum_by-append, sum_by-cons, sum_by_more, prefix_len-le-length}
 use Rattle.std.proofs.lemmas.List.Folds.{prefix_len-append}
-use Rattle.common.specs.declared.limits.TheConstants.{MAX_EVENTS}
-use Rattle.ledger.specs.declared.code.TheConstants.{CYCLE}
+use Rattle.ledger.specs.declared.code.TheConstants.{CYCLE, LONG_CYCLE}
 use Rattle.ledger.specs.Kinds.{is_ordered, is_unjudged, is_overlook, is_cycle_of, is_violation}
 use Rattle.ledger.specs.Counts.{AreCounts}
 use Rattle.ledger.specs.Joined.{EveryTwoListsJoin, EveryLedgerAddsUp, EveryListHasOneLedger, first_of}
@@ -134,16 +133,16 @@ one_length m x = grind (arith, nat_tests)
 
 -- each code is of one kind
 one_kind : (x : ℕ) → cond (is_ordered x) 1 0 + cond (is_unjudged x) 1 0 + cond (is_overlook x) 1 0
-    + cond (is_cycle_below (MAX_EVENTS + 1) x) 1 0 ≡ 1
+    + cond (is_cycle_below (LONG_CYCLE + 1) x) 1 0 ≡ 1
 one_kind x = grind (arith, nat_tests)
 
 -- the counts of the lengths below m
-counts_below : (codes counts : List ℕ) → length counts ≡ MAX_EVENTS + 1 → AreCounts codes counts → (m : ℕ)
-    → m ≤ MAX_EVENTS + 1 → sum (take m counts) ≡ count_by (is_cycle_below m) codes
+counts_below : (codes counts : List ℕ) → length counts ≡ LONG_CYCLE + 1 → AreCounts codes counts → (m : ℕ)
+    → m ≤ LONG_CYCLE + 1 → sum (take m counts) ≡ count_by (is_cycle_below m) codes
 counts_below codes counts size are zero within = sym (count_none (is_cycle_below 0) none_below codes)
 counts_below codes counts size are (suc m) within =
     let e : suc m ≡ m + 1 = omega arith in
-    let low : m ≤ MAX_EVENTS = omega (arith, within) in
+    let low : m ≤ LONG_CYCLE = omega (arith, within) in
     rw e (omega (
       arith,
       sum_by_more (λ (x : ℕ). x) counts m 0 (omega (arith, size, within)),
@@ -155,9 +154,9 @@ counts_below codes counts size are (suc m) within =
 -- the counts of a ledger add up
 pub adds_up : EveryLedgerAddsUp
 adds_up codes l is =
-    let whole : take (MAX_EVENTS + 1) l.cycles.items ≡ l.cycles.items =
-    take_all (MAX_EVENTS + 1) l.cycles.items (omega (arith, is.lengths)) in
-    let cycles = counts_below codes l.cycles.items is.lengths is.cycles (MAX_EVENTS + 1) (omega arith) in
+    let whole : take (LONG_CYCLE + 1) l.cycles.items ≡ l.cycles.items =
+    take_all (LONG_CYCLE + 1) l.cycles.items (omega (arith, is.lengths)) in
+    let cycles = counts_below codes l.cycles.items is.lengths is.cycles (LONG_CYCLE + 1) (omega arith) in
     omega (
       arith,
       is.total,
@@ -166,7 +165,7 @@ adds_up codes l is =
       is.overlook,
       ap sum whole,
       cycles,
-      count_all is_ordered is_unjudged is_overlook (is_cycle_below (MAX_EVENTS + 1)) one_kind codes,
+      count_all is_ordered is_unjudged is_overlook (is_cycle_below (LONG_CYCLE + 1)) one_kind codes,
     )
 
 -- codes have one ledger
@@ -177,7 +176,7 @@ one_ledger codes l m a b = record {
   unjudged = a.unjudged ∙ sym b.unjudged;
   overlook = a.overlook ∙ sym b.overlook;
   cycles = ext_get_or 0 l.cycles.items m.cycles.items (a.lengths ∙ sym b.lengths) (λ n low.
-      let within : n ≤ MAX_EVENTS = omega (arith, low, a.lengths) in
+      let within : n ≤ LONG_CYCLE = omega (arith, low, a.lengths) in
       a.cycles n within ∙ sym (b.cycles n within));
   first = a.first ∙ sym b.first;
   first_unjudged = a.first_unjudged ∙ sym b.first_unjudged;

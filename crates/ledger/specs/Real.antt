@@ -1,6 +1,6 @@
 -- Which counts and first places are those of some codes.
 use Rattle.std.specs.Prelude.{◌≡◌, ◌≢◌, ◌⊎◌, ◌+◌, ◌<◌, ◌≤◌, ℕ, List, Option, None, Some, ⊤, length, sum}
-use Rattle.common.specs.declared.limits.TheConstants.{MAX_EVENTS}
+use Rattle.ledger.specs.declared.code.TheConstants.{LONG_CYCLE}
 use Rattle.ledger.specs.declared.ledger.Ledger.{Ledger}
 use Rattle.ledger.specs.Counts.{AddsUp, IsLedger}
 
@@ -32,7 +32,7 @@ pub record HasCodes (l : Ledger) : Type 0 where
 
 -- counts that add up, with first places that fit them, are those of some codes
 abbrev pub EveryFittingLedgerHasCodes : Type 0
-EveryFittingLedgerHasCodes = (l : Ledger) → length l.cycles.items ≡ MAX_EVENTS + 1 → AddsUp l → FirstsFit l → HasCodes l
+EveryFittingLedgerHasCodes = (l : Ledger) → length l.cycles.items ≡ LONG_CYCLE + 1 → AddsUp l → FirstsFit l → HasCodes l
 
 -- and the first places of every ledger fit its counts
 abbrev pub EveryLedgerFits : Type 0

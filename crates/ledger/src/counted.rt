@@ -1,10 +1,11 @@
 //! The texts of ledgers.
 
 ghost use Rattle.std.specs.Prelude.{◌≡◌, ◌++◌, IfOk, OnOk, Some, length, slice_index};
-ghost use Rattle.ledger.specs.Counted.{campaign_text, count_line, cycle_line, cycle_lines, first_line};
+ghost use Rattle.ledger.specs.Counted.{campaign_text, count_line, cycle_line, cycle_lines, first_line, length_name};
 ghost use Rattle.ledger.specs.Counted.{ledger_text, place_name, survey_text};
 ghost use Rattle.ledger.specs.Counted.{unjudged_counts, values_counts, values_firsts, values_survey_text};
 
+use crate::code::LONG_CYCLE;
 use crate::ledger::Ledger;
 use crate::survey_ledger::SurveyLedger;
 use common::OutOfMemory;
@@ -22,6 +23,17 @@ fn put_count(out: &mut Vec<u8>, name: &[u8], count: usize) -> Result<(), OutOfMe
     Ok(())
 }
 
+/// Adds a length of cycles, or that it stands for all longer ones.
+fn put_length(out: &mut Vec<u8>, cycle: usize) -> Result<(), OutOfMemory>
+    ensures { OnOk result (out.new.items ≡ out.old.items ++ length_name cycle) }
+{
+    if cycle < LONG_CYCLE {
+        return put_number(out, cycle);
+    }
+    out.extend_from_slice(b"over 512")?;
+    Ok(())
+}
+
 /// Adds the line of a length of cycles and how many recordings have one, unless none has.
 fn put_cycle_count(out: &mut Vec<u8>, cycle: usize, count: usize) -> Result<(), OutOfMemory>
     ensures { OnOk result (out.new.items ≡ out.old.items ++ cycle_line cycle count) }
@@ -30,7 +42,7 @@ fn put_cycle_count(out: &mut Vec<u8>, cycle: usize, count: usize) -> Result<(), 
         return Ok(());
     }
     out.extend_from_slice(b"cycle ")?;
-    put_number(out, cycle)?;
+    put_length(out, cycle)?;
     out.extend_from_slice(b": ")?;
     put_number(out, count)?;
     out.push(b'\n')?;

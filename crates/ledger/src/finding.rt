@@ -1,9 +1,9 @@
 //! What is found of recordings and of values.
 
 ghost use Rattle.std.specs.Prelude.{◌≡◌};
-ghost use Rattle.ledger.specs.Findings.{refusal_code};
+ghost use Rattle.ledger.specs.Findings.{counted_length, place_code, refusal_code};
 
-use crate::code::{CYCLE, IMPOSSIBLE, LOAD, ORDERED, OVERLOOK, REFUSED, UNFINISHED};
+use crate::code::{CYCLE, IMPOSSIBLE, LOAD, LONG_CYCLE, ORDERED, OVERLOOK, REFUSED, UNFINISHED};
 use common::EventId;
 use recording::RecError;
 use verdicts::Verdict;
@@ -20,8 +20,9 @@ pub enum Finding {
         /// The store that it overlooks.
         store: EventId,
     },
-    /// It has no overlook, and a least cycle of this length.
-    Cycle(u16),
+    /// It has no overlook, and a cycle of this length: its least one, or, within the limits of a long recording, one
+    /// without chords.
+    Cycle(usize),
     /// TSO does not allow the values.
     Impossible,
     /// It was not found out whether TSO allows the values.
@@ -32,11 +33,10 @@ pub enum Finding {
 
 impl Finding {
     ghost use Rattle.std.specs.Prelude.{◌≡◌};
-    ghost use Rattle.ledger.specs.Findings.{IsShortVerdict, finding_code, finding_of};
+    ghost use Rattle.ledger.specs.Findings.{finding_code, finding_of};
 
-    /// That of a verdict, whose cycle has no more than `MAX_EVENTS` events.
+    /// That of a verdict.
     pub fn of(verdict: &Verdict) -> Finding
-        requires { IsShortVerdict verdict.now }
         ensures { result ≡ finding_of verdict.now }
     {
         match verdict {
@@ -45,13 +45,14 @@ impl Finding {
                 load: *load,
                 store: *store,
             },
-            Verdict::Cycle(certificate) => Finding::Cycle(certificate.cycle.len() as u16),
+            Verdict::Cycle(certificate) => Finding::Cycle(certificate.cycle.len()),
         }
     }
 
-    /// Its code: 2 of what is unfinished, 3 of an order, 16 of what is impossible, 16 and the length of a cycle,
-    /// 1,048,576 and 1,024 times the load and the store of an overlook, 65,536 times 1 to 7 and the event or the
-    /// address of a refusal by N1 to N7. Running out of memory, which is no refusal, has 0.
+    /// Its code: 2 of what is unfinished, 3 of an order, 16 of what is impossible, 16 and the length of a cycle, where it
+    /// is at most 512, and else 513, 1,048,576 and 1,024 times the load and the store of an overlook, 65,536 times 1 to 7
+    /// and the event or the address, at most 65,535, of a refusal by N1 to N7. Running out of memory, which is no
+    /// refusal, has 0.
     pub fn code(&self) -> u64
         ensures { result ≡ finding_code self.now }
     {
@@ -60,12 +61,26 @@ impl Finding {
             Finding::Overlook { load, store } => {
                 OVERLOOK + LOAD * u64::from(*load) + u64::from(*store)
             }
-            Finding::Cycle(length) => CYCLE + u64::from(*length),
+            Finding::Cycle(length) => CYCLE + counted_length(*length) as u64,
             Finding::Impossible => IMPOSSIBLE,
             Finding::Unfinished => UNFINISHED,
             Finding::Refused(refusal) => refusal_code(*refusal),
         }
     }
+}
+
+/// The length that a cycle has in its code.
+fn counted_length(length: usize) -> usize
+    ensures { result ≡ counted_length length }
+{
+    length.min(LONG_CYCLE)
+}
+
+/// The event or the address in the code of a refusal.
+fn place_code(place: u32) -> u64
+    ensures { result ≡ place_code place }
+{
+    u64::from(place).min(REFUSED - 1)
 }
 
 /// The code of a refusal.
@@ -77,9 +92,9 @@ fn refusal_code(refusal: RecError) -> u64
         RecError::Shape => REFUSED * 2,
         RecError::Version => REFUSED * 3,
         RecError::Limits => REFUSED * 4,
-        RecError::Source(event) => REFUSED * 5 + u64::from(event),
-        RecError::Value(event) => REFUSED * 6 + u64::from(event),
-        RecError::WriteList(address) => REFUSED * 7 + u64::from(address),
+        RecError::Source(event) => REFUSED * 5 + place_code(event),
+        RecError::Value(event) => REFUSED * 6 + place_code(event),
+        RecError::WriteList(address) => REFUSED * 7 + place_code(address),
         RecError::OutOfMemory => 0,
     }
 }

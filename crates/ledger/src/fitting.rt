@@ -80,12 +80,12 @@ fn firsts_fit(ledger: &Ledger, violations: usize) -> bool
 
 impl Ledger {
     ghost use Rattle.std.specs.Prelude.{◌≡◌, ◌+◌, ◌↔◌, IsTrue, length};
-    ghost use Rattle.common.specs.declared.limits.TheConstants.{MAX_EVENTS};
+    ghost use Rattle.ledger.specs.declared.code.TheConstants.{LONG_CYCLE};
     ghost use Rattle.ledger.specs.Real.{HasCodes};
 
     /// Whether it is the ledger of some codes.
     pub fn has_codes(&self) -> bool
-        requires { length self.now.cycles.items ≡ MAX_EVENTS + 1 }
+        requires { length self.now.cycles.items ≡ LONG_CYCLE + 1 }
         ensures { IsTrue result ↔ HasCodes self.now }
     {
         ledgers_add_up();

@@ -3,14 +3,13 @@
 ghost use Rattle.std.specs.Prelude.{◌≡◌};
 ghost use Rattle.ledger.specs.Kinds.{is_cycle, is_unfinished, is_unjudged, is_unread, is_violation};
 
-use crate::code::{CYCLE, ORDERED, OVERLOOK, UNFINISHED};
-use common::MAX_EVENTS;
+use crate::code::{CYCLE, LONG_CYCLE, ORDERED, OVERLOOK, UNFINISHED};
 
 /// Whether it is the code of a cycle.
 fn is_cycle(code: u64) -> bool
     ensures { result ≡ is_cycle code }
 {
-    CYCLE <= code && code <= CYCLE + MAX_EVENTS as u64
+    CYCLE <= code && code <= CYCLE + LONG_CYCLE as u64
 }
 
 /// Whether it is the code of an overlook or a cycle.

@@ -2,14 +2,14 @@
 
 ghost use Rattle.std.specs.Prelude.{◌≡◌, ◌≤◌, ◌<◌, ◌+◌, ◌^◌, ℕ, IfOk, IfSome, count_by, length, position};
 ghost use Rattle.std.specs.Prelude.{slice_index, if◌then◌else◌};
-ghost use Rattle.common.specs.declared.limits.TheConstants.{MAX_EVENTS};
+ghost use Rattle.ledger.specs.declared.code.TheConstants.{LONG_CYCLE};
 ghost use Rattle.ledger.specs.Kinds.{is_ordered, is_cycle_of, is_overlook, is_unjudged, is_violation};
 ghost use Rattle.ledger.specs.Counts.{AreCounts};
 ghost use Rattle.ledger.specs.Joined.{AreSums, first_of};
 
-use crate::code::{CYCLE, ORDERED, OVERLOOK};
+use crate::code::{CYCLE, LONG_CYCLE, ORDERED, OVERLOOK};
 use crate::kinds::{is_unjudged, is_violation};
-use common::{MAX_EVENTS, OutOfMemory};
+use common::OutOfMemory;
 use std::alloc::Global;
 
 /// How many codes there are of each kind.
@@ -40,7 +40,7 @@ impl Ledger {
     pub fn count(alloc: Global, codes: &[u64]) -> Result<Ledger, OutOfMemory>
         ensures { IfOk result (IsLedger codes.now) }
     {
-        let mut cycles = Vec::from_elem(alloc, 0usize, MAX_EVENTS + 1)?;
+        let mut cycles = Vec::from_elem(alloc, 0usize, LONG_CYCLE + 1)?;
         count_cycles(&mut cycles, codes);
         Ok(Ledger {
             total: codes.len(),
@@ -113,23 +113,23 @@ fn first_unjudged(codes: &[u64]) -> Option<usize>
 
 /// Counts a code, where it is that of a cycle, among those of its length.
 fn count_code(counts: &mut [usize], code: u64)
-    requires size { length counts.old ≡ MAX_EVENTS + 1 }
-    requires few { (n : ℕ) → n ≤ MAX_EVENTS → slice_index counts.old n + 1 < 2 ^ 64 }
-    ensures size { length counts.new ≡ MAX_EVENTS + 1 }
-    ensures counts { (n : ℕ) → n ≤ MAX_EVENTS → slice_index counts.new n
+    requires size { length counts.old ≡ LONG_CYCLE + 1 }
+    requires few { (n : ℕ) → n ≤ LONG_CYCLE → slice_index counts.old n + 1 < 2 ^ 64 }
+    ensures size { length counts.new ≡ LONG_CYCLE + 1 }
+    ensures counts { (n : ℕ) → n ≤ LONG_CYCLE → slice_index counts.new n
         ≡ (if is_cycle_of n code then slice_index counts.old n + 1 else slice_index counts.old n) }
 {
     let length = code.wrapping_sub(CYCLE);
-    if length <= MAX_EVENTS as u64 {
+    if length <= LONG_CYCLE as u64 {
         counts[length as usize] += 1;
     }
 }
 
 /// Counts the codes of cycles of each length.
 fn count_cycles(counts: &mut [usize], codes: &[u64])
-    requires size { length counts.old ≡ MAX_EVENTS + 1 }
-    requires none { (n : ℕ) → n ≤ MAX_EVENTS → slice_index counts.old n ≡ 0 }
-    ensures size { length counts.new ≡ MAX_EVENTS + 1 }
+    requires size { length counts.old ≡ LONG_CYCLE + 1 }
+    requires none { (n : ℕ) → n ≤ LONG_CYCLE → slice_index counts.old n ≡ 0 }
+    ensures size { length counts.new ≡ LONG_CYCLE + 1 }
     ensures counts { AreCounts codes.now counts.new }
 {
     for code in codes {

@@ -10,7 +10,7 @@ mod law;
 mod ledger;
 mod survey_ledger;
 
-pub use code::{CYCLE, IMPOSSIBLE, LOAD, ORDERED, OVERLOOK, REFUSED, UNFINISHED};
+pub use code::{CYCLE, IMPOSSIBLE, LOAD, LONG_CYCLE, ORDERED, OVERLOOK, REFUSED, UNFINISHED};
 pub use counted::{campaign_text, survey_text, values_survey_text};
 pub use finding::Finding;
 pub use kinds::is_violation;

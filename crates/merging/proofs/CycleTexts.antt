@@ -3,7 +3,7 @@ use Rattle.std.proofs.Common.{◌≡◌, ◌∙◌, ◌<◌, ◌≤◌, ◌^◌,
 use Rattle.std.proofs.Common.{ap, append_assoc, append-nil, arith, decimal, get_or, inl, inr, length, refl, subst, sym}
 use Rattle.std.proofs.lemmas.List.{get_or_append_left}
 use Rattle.std.proofs.Math.Seq.{get_or-append_seam}
-use Rattle.common.specs.declared.limits.TheConstants.{MAX_EVENTS}
+use Rattle.ledger.specs.declared.code.TheConstants.{LONG_CYCLE}
 use Rattle.ledger.specs.Counted.{cycle_line, cycle_lines}
 use Rattle.merging.specs.Parts.{Are64Bit, IsLater}
 use Rattle.merging.proofs.LineTexts.{cycle_then}
@@ -54,30 +54,30 @@ lines_split counts k (suc n) =
 
 -- all lines
 pub lines_all : (counts more : List ℕ)
-    → cycle_lines counts (MAX_EVENTS + 1) ++ more ≡ lines_from counts 0 (MAX_EVENTS + 1 - 0) ++ more
+    → cycle_lines counts (LONG_CYCLE + 1) ++ more ≡ lines_from counts 0 (LONG_CYCLE + 1 - 0) ++ more
 unfolding cycle_lines
-lines_all counts more = ap (λ (t : List ℕ). t ++ more) (sym (lines_split counts 0 (MAX_EVENTS + 1)))
+lines_all counts more = ap (λ (t : List ℕ). t ++ more) (sym (lines_split counts 0 (LONG_CYCLE + 1)))
 
 -- none are left
-pub lines_end : (counts more : List ℕ) (k : ℕ) → k ≡ MAX_EVENTS + 1
-    → lines_from counts k (MAX_EVENTS + 1 - k) ++ more ≡ more
+pub lines_end : (counts more : List ℕ) (k : ℕ) → k ≡ LONG_CYCLE + 1
+    → lines_from counts k (LONG_CYCLE + 1 - k) ++ more ≡ more
 unfolding lines_from
 lines_end counts more k end =
-    let none : MAX_EVENTS + 1 - k ≡ 0 = omega (arith, end) in
+    let none : LONG_CYCLE + 1 - k ≡ 0 = omega (arith, end) in
     ap (λ (n : ℕ). lines_from counts k n ++ more) none
 
 -- the line of one, and the others
-lines_next : (counts more : List ℕ) (k : ℕ) → k < MAX_EVENTS + 1
-    → lines_from counts k (MAX_EVENTS + 1 - k) ++ more
-    ≡ cycle_line k (get_or counts k 0) ++ (lines_from counts (k + 1) (MAX_EVENTS + 1 - (k + 1)) ++ more)
+lines_next : (counts more : List ℕ) (k : ℕ) → k < LONG_CYCLE + 1
+    → lines_from counts k (LONG_CYCLE + 1 - k) ++ more
+    ≡ cycle_line k (get_or counts k 0) ++ (lines_from counts (k + 1) (LONG_CYCLE + 1 - (k + 1)) ++ more)
 unfolding lines_from
 lines_next counts more k low =
-    let one : MAX_EVENTS + 1 - k ≡ suc (MAX_EVENTS + 1 - (k + 1)) = omega (arith, low) in
+    let one : LONG_CYCLE + 1 - k ≡ suc (LONG_CYCLE + 1 - (k + 1)) = omega (arith, low) in
     ap (λ (n : ℕ). lines_from counts k n ++ more) one
-    ∙ append_assoc (cycle_line k (get_or counts k 0)) (lines_from counts (k + 1) (MAX_EVENTS + 1 - (k + 1))) more
+    ∙ append_assoc (cycle_line k (get_or counts k 0)) (lines_from counts (k + 1) (LONG_CYCLE + 1 - (k + 1))) more
 
 -- what stands after the line of a length is later
-lines_later : (counts more : List ℕ) (k j n : ℕ) → k < j → j + n ≤ MAX_EVENTS + 1
+lines_later : (counts more : List ℕ) (k j n : ℕ) → k < j → j + n ≤ LONG_CYCLE + 1
     → IsLater k (lines_from counts j n ++ 102 ∷ more)
 unfolding lines_from
 lines_later counts more k j zero before within = inl (more, refl)
@@ -97,25 +97,25 @@ lines_later counts more k j (suc n) before within = go (get_or counts j 0)
     )
 
 -- what is read of the line of a length, where all lines are those of counts
-pub next_count : (counts more rest : List ℕ) (k : ℕ) (r : Option ℕ) (new : List ℕ) → k < MAX_EVENTS + 1
-    → Are64Bit counts → rest ≡ lines_from counts k (MAX_EVENTS + 1 - k) ++ 102 ∷ more
+pub next_count : (counts more rest : List ℕ) (k : ℕ) (r : Option ℕ) (new : List ℕ) → k < LONG_CYCLE + 1
+    → Are64Bit counts → rest ≡ lines_from counts k (LONG_CYCLE + 1 - k) ++ 102 ∷ more
     → ((n : ℕ) (back : List ℕ) → 0 < n → n < 2 ^ 64 → rest ≡ cycle_line k n ++ back → (r ≡ Some n) × (new ≡ back))
     → (IsLater k rest → (r ≡ Some 0) × (new ≡ rest))
-    → (r ≡ Some (get_or counts k 0)) × (new ≡ lines_from counts (k + 1) (MAX_EVENTS + 1 - (k + 1)) ++ 102 ∷ more)
+    → (r ≡ Some (get_or counts k 0)) × (new ≡ lines_from counts (k + 1) (LONG_CYCLE + 1 - (k + 1)) ++ 102 ∷ more)
 next_count counts more rest k r new low short is here later = go (get_or counts k 0) refl
   where
     next : rest ≡ cycle_line k (get_or counts k 0)
-        ++ (lines_from counts (k + 1) (MAX_EVENTS + 1 - (k + 1)) ++ 102 ∷ more)
+        ++ (lines_from counts (k + 1) (LONG_CYCLE + 1 - (k + 1)) ++ 102 ∷ more)
     next = is ∙ lines_next counts (102 ∷ more) k low
 
     go : (m : ℕ) → get_or counts k 0 ≡ m
-        → (r ≡ Some (get_or counts k 0)) × (new ≡ lines_from counts (k + 1) (MAX_EVENTS + 1 - (k + 1)) ++ 102 ∷ more)
+        → (r ≡ Some (get_or counts k 0)) × (new ≡ lines_from counts (k + 1) (LONG_CYCLE + 1 - (k + 1)) ++ 102 ∷ more)
     go zero count =
-        let left : rest ≡ lines_from counts (k + 1) (MAX_EVENTS + 1 - (k + 1)) ++ 102 ∷ more = next
+        let left : rest ≡ lines_from counts (k + 1) (LONG_CYCLE + 1 - (k + 1)) ++ 102 ∷ more = next
         ∙ ap (λ (m : ℕ). cycle_line k m
-        ++ (lines_from counts (k + 1) (MAX_EVENTS + 1 - (k + 1)) ++ 102 ∷ more)) count in
+        ++ (lines_from counts (k + 1) (LONG_CYCLE + 1 - (k + 1)) ++ 102 ∷ more)) count in
         let read = later (subst (IsLater k) (sym left)
-        (lines_later counts more k (k + 1) (MAX_EVENTS + 1 - (k + 1)) (omega arith) (omega (arith, low)))) in
+        (lines_later counts more k (k + 1) (LONG_CYCLE + 1 - (k + 1)) (omega arith) (omega (arith, low)))) in
         (read.0 ∙ ap (λ (m : ℕ). Some m) (sym count), read.1 ∙ left)
     go (suc m) count = here (get_or counts k 0)
-        (lines_from counts (k + 1) (MAX_EVENTS + 1 - (k + 1)) ++ 102 ∷ more) (omega (arith, count)) (short k) next
+        (lines_from counts (k + 1) (LONG_CYCLE + 1 - (k + 1)) ++ 102 ∷ more) (omega (arith, count)) (short k) next

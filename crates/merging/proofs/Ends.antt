@@ -37,11 +37,11 @@ digits_all n small = decimal_by_steps (λ n ds. AreDigits ds)
     (λ n ds high all. more_digits ds (48 + n % 10) all (one_digit (n % 10) (omega arith))) n small
 
 -- a byte is not both
-not_both : (b : Bool) → b ≡ true → b ≡ false → ⊥
+pub not_both : (b : Bool) → b ≡ true → b ≡ false → ⊥
 not_both b is other = false≢true (sym other ∙ is)
 
 -- the digits of a number before another byte end with it
-digits_end : (text : List ℕ) (end n b : ℕ) (more : List ℕ) → n < 2 ^ 64 → IsNoDigit b
+pub digits_end : (text : List ℕ) (end n b : ℕ) (more : List ℕ) → n < 2 ^ 64 → IsNoDigit b
     → text ≡ decimal n ++ b ∷ more → end ≤ length text
     → ((i : ℕ) → i < end → is_digit (get_or text i 0) ≡ true)
     → (end < length text → is_digit (get_or text end 0) ≡ false) → end ≡ length (decimal n)

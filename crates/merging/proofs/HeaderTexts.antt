@@ -1,6 +1,6 @@
 -- The parts of a header.
-use Rattle.std.proofs.Common.{◌≡◌, ◌∙◌, ◌+◌, ◌<◌, ◌^◌, ◌++◌, ◌∷◌, [], ℕ, List, Option, None, Some, refl, ap, sym, arith, position}
-use Rattle.std.proofs.Common.{append_assoc, codes, decimal, drop, get_or, length, false, true}
+use Rattle.std.proofs.Common.{◌≡◌, ◌∙◌, ◌+◌, ◌++◌, ◌∷◌, [], ℕ, List, Option, None, Some, refl, ap, arith, position}
+use Rattle.std.proofs.Common.{append_assoc, codes, drop, get_or, length}
 use Rattle.machine.specs.declared.fault.Fault.{Fault}
 use Rattle.machine.specs.declared.fault.Fault.TheVariants as fault
 use Rattle.headers.specs.declared.header.Setup.{Setup}

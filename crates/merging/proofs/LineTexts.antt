@@ -1,11 +1,14 @@
 -- Lines, and what stands after them.
-use Rattle.std.proofs.Common.{◌≡◌, ◌<◌, ◌++◌, ◌∷◌, ℕ, List, Option, Some, append_assoc}
-use Rattle.std.proofs.Common.{codes, decimal, arith, nat_eq, ne_eqb, false}
-use Rattle.ledger.specs.Counted.{cycle_line, first_line, place_name}
+use Rattle.std.proofs.Common.{◌≡◌, ◌∙◌, ◌⊎◌, ◌<◌, ◌≤◌, ◌^◌, ◌++◌, ◌∷◌, ℕ, List, Option, None, Some, ap, append_assoc}
+use Rattle.std.proofs.Common.{codes, decimal, arith, inl, inr, le-ltb, lt-ltb, nat_eq, nat_lt, ne_eqb, false, refl, true}
+use Rattle.std.proofs.lemmas.Bool.{cases_lt}
+use Rattle.ledger.specs.declared.code.TheConstants.{LONG_CYCLE}
+use Rattle.ledger.specs.Counted.{cycle_line, first_line, length_name, place_name}
+use Rattle.merging.specs.Digits.{IsNoDigit}
 
 -- a line of a length of cycles
 pub cycle_then : (k n : ℕ) (more : List ℕ) → 0 < n
-    → cycle_line k n ++ more ≡ codes "cycle " ++ (decimal k ++ (codes ": " ++ (decimal n ++ 10 ∷ more)))
+    → cycle_line k n ++ more ≡ codes "cycle " ++ (length_name k ++ (codes ": " ++ (decimal n ++ 10 ∷ more)))
 cycle_then k n more some =
     let fails : nat_eq n 0 ≡ false = ne_eqb n 0 (λ e. omega (arith, e, some)) in
     rw fails (simp append_assoc)
@@ -19,3 +22,24 @@ first_then name noun first more = simp append_assoc
 pub place_then : (noun : List ℕ) (n : ℕ) (more : List ℕ)
     → place_name noun (Some n) ++ more ≡ noun ++ (32 ∷ (decimal n ++ more))
 place_then noun n more = append_assoc noun (32 ∷ decimal n) more
+
+-- a length of cycles that is printed, and the one that stands for all longer ones
+pub length_below : (n : ℕ) → n < LONG_CYCLE → length_name n ≡ decimal n
+length_below n low =
+    let test : nat_lt n LONG_CYCLE ≡ true = lt-ltb n LONG_CYCLE low in rw test refl
+
+pub length_over : (n : ℕ) → LONG_CYCLE ≤ n → length_name n ≡ codes "over 512"
+length_over n high =
+    let test : nat_lt n LONG_CYCLE ≡ false = le-ltb n LONG_CYCLE high in rw test refl
+
+-- a text that begins with a length of cycles begins with its number, or with no digit
+pub length_begins : (n : ℕ) (text more : List ℕ) (r : Option ℕ) → n ≤ LONG_CYCLE → text ≡ length_name n ++ 58 ∷ more
+    → ((k b : ℕ) (back : List ℕ) → k < 2 ^ 64 → IsNoDigit b → text ≡ decimal k ++ b ∷ back → r ≡ Some k)
+    → ((b : ℕ) (back : List ℕ) → IsNoDigit b → text ≡ b ∷ back → r ≡ None)
+    → (r ≡ Some n) ⊎ ((n ≡ LONG_CYCLE) × (r ≡ None) × (text ≡ codes "over 512" ++ 58 ∷ more))
+length_begins n text more r within is found none = elim (cases_lt n LONG_CYCLE) [
+  | inl low ↦ inl (found n 58 more (omega (arith, low)) refl
+      (is ∙ ap (λ (t : List ℕ). t ++ 58 ∷ more) (length_below n low)))
+  | inr high ↦ let over = is ∙ ap (λ (t : List ℕ). t ++ 58 ∷ more) (length_over n high) in
+      inr (omega (arith, within, high), none 111 (codes "ver 512" ++ 58 ∷ more) refl over, over)
+]

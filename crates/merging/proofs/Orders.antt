@@ -1,5 +1,5 @@
 -- Sections in order.
-use Rattle.std.proofs.Common.{◌≡◌, ◌∙◌, ◌+◌, ◌-◌, ◌<◌, ◌≤◌, ◌++◌, [], ◌∷◌, ℕ, zero, suc, List, All, ap, arith, get_or, length, refl, sym}
+use Rattle.std.proofs.Common.{◌≡◌, ◌+◌, ◌-◌, ◌<◌, ◌≤◌, [], ℕ, zero, suc, List, ap, arith, get_or, length}
 use Rattle.std.proofs.Common.{IsSortedByKey, None}
 use Rattle.headers.specs.declared.header.Counted.TheVariants.{Survey}
 use Rattle.std.specs.Ordering.{nat_cmp}
@@ -8,7 +8,7 @@ use Rattle.merging.specs.declared.error.MergeError.{MergeError}
 use Rattle.merging.specs.declared.error.MergeError.TheVariants as errors
 use Rattle.merging.specs.declared.joined.Gaps.{Gaps}
 use Rattle.merging.specs.declared.joined.Gaps.TheVariants.{Refuse, Count}
-use Rattle.merging.specs.Ordered.{AreWithin, FirstIsLeast, FollowEachOther, Follows, HasSeam, IsNoOrderedJoin}
+use Rattle.merging.specs.Ordered.{FirstIsLeast, FollowEachOther, Follows, HasSeam, IsNoOrderedJoin}
 use Rattle.merging.specs.Sections.{Section, end_of}
 
 -- a section is no earlier than the first

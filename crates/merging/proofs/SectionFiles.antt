@@ -1,7 +1,7 @@
 -- The sections of files.
-use Rattle.std.proofs.Common.{◌≡◌, ◌≢◌, ◌∙◌, ◌+◌, ◌<◌, ◌++◌, [], ◌∷◌, ℕ, List, All, ap, append_assoc, append-nil, arith, get_or, length}
+use Rattle.std.proofs.Common.{◌≡◌, ◌∙◌, ◌+◌, ◌<◌, ◌++◌, [], ◌∷◌, ℕ, List, ap, append_assoc, append-nil, arith, get_or, length}
 use Rattle.std.proofs.Common.{length-append, refl, subst, sym, take}
-use Rattle.std.specs.Prelude.{IsPermutation, IfErr}
+use Rattle.std.specs.Prelude.{IfErr}
 use Rattle.std.specs.declared.result.Result.{Result}
 use Rattle.std.proofs.Common.{Ok, Err}
 use Rattle.std.proofs.lemmas.List.{take_more}

@@ -1,13 +1,12 @@
 -- What begins with a section, and what does not.
-use Rattle.std.proofs.Common.{◌≡◌, ◌∙◌, ◌+◌, ◌<◌, ◌++◌, [], ℕ, List, Option, None, Some, ◌-◌, ap, append_assoc, append-nil, arith, length, length-append, take}
-use Rattle.std.proofs.Common.{position, refl, subst, sym}
+use Rattle.std.proofs.Common.{◌≡◌, ◌∙◌, ◌<◌, ◌++◌, [], ℕ, List, Option, None, Some, ◌-◌, ap, append_assoc, append-nil, arith, length, length-append, take}
+use Rattle.std.proofs.Common.{subst, sym}
 use Rattle.std.proofs.Math.Seq.{take-append_seam}
 use Rattle.std.specs.Prelude.{IfSome}
 use Rattle.headers.specs.declared.header.Header.{Header}
 use Rattle.headers.specs.Headers.{IsHeader, header_line}
 use Rattle.ledger.specs.declared.ledger.Ledger.{Ledger}
 use Rattle.ledger.specs.Counts.{IsLedger}
-use Rattle.ledger.specs.Kinds.{is_violation}
 use Rattle.ledger.specs.Real.{IsFirstOf, violation_count}
 use Rattle.ledger.proofs.RealLemmas.{firsts_fit}
 use Rattle.headers.specs.declared.header.Counted.{Counted}
@@ -16,7 +15,7 @@ use Rattle.merging.specs.declared.error.TextError.{TextError}
 use Rattle.merging.specs.declared.error.TextError.TheVariants.{Refused, OutOfMemory}
 use Rattle.merging.specs.declared.kind.Kind.{Kind}
 use Rattle.merging.specs.Merges.{IsNoText, IsTextRead}
-use Rattle.merging.specs.Sections.{Fits, IsSection, IsTextOfCodes, Section, bytes_of, kind_of}
+use Rattle.merging.specs.Sections.{Fits, IsSection, Section, bytes_of, kind_of}
 use Rattle.merging.specs.TextOf.{HasTextOf}
 use Rattle.merging.specs.Texts.{BeginsWithLedger, text_of}
 use Rattle.merging.specs.Unread.{IsNoSection}
@@ -62,6 +61,7 @@ first_low codes l what count is fits = go l.first ((firsts_fit codes l is).viola
     small : (c : Counted) → Fits c count l.total → (k : ℕ) → k < l.total → k < count
     small (counted.Campaign setup) fits k low = omega (arith, fits, low)
     small counted.Survey fits k low = omega (arith, fits, low)
+    small counted.LongSurvey fits k low = omega (arith, fits, low)
 
     go : (o : Option ℕ) → IsFirstOf (violation_count l) l.total o → IfSome o (λ k. k < count)
     go None fit = tt

@@ -1,7 +1,7 @@
 -- Lemmas on what texts tell.
 use Rattle.std.proofs.Common.{◌≡◌, ◌++◌, ◌≤◌, ℕ, List, position, arith, refl, sym, ◌∙◌}
 use Rattle.std.proofs.lemmas.List.{ext_get_or}
-use Rattle.common.specs.declared.limits.TheConstants.{MAX_EVENTS}
+use Rattle.ledger.specs.declared.code.TheConstants.{LONG_CYCLE}
 use Rattle.ledger.specs.declared.ledger.Ledger.{Ledger}
 use Rattle.ledger.specs.Kinds.{is_unjudged}
 use Rattle.ledger.specs.Counts.{IsLedger}
@@ -103,7 +103,7 @@ one_text kind codes l m a b = record {
   where
     cycles : l.cycles.items ≡ m.cycles.items
     cycles = ext_get_or 0 l.cycles.items m.cycles.items (a.lengths ∙ sym b.lengths) (λ n low.
-        let within : n ≤ MAX_EVENTS = omega (arith, low, a.lengths) in
+        let within : n ≤ LONG_CYCLE = omega (arith, low, a.lengths) in
         a.cycles n within ∙ sym (b.cycles n within))
 
     go : (kind : Kind) → HasUnjudgedOf kind codes l → HasUnjudgedOf kind codes m → text_of kind l ≡ text_of kind m

@@ -5,7 +5,7 @@ use Rattle.std.proofs.Common.{eq-eqb, false, nat_eq, ne_eqb, true}
 use Rattle.std.proofs.lemmas.Bool.{cases_lt}
 use Rattle.std.proofs.lemmas.List.{get_or_past}
 use Rattle.std.proofs.lemmas.List.Sums.{count_by-le-length}
-use Rattle.common.specs.declared.limits.TheConstants.{MAX_EVENTS}
+use Rattle.ledger.specs.declared.code.TheConstants.{LONG_CYCLE}
 use Rattle.ledger.specs.declared.ledger.Ledger.{Ledger}
 use Rattle.ledger.specs.Counts.{AddsUp, IsLedger}
 use Rattle.ledger.specs.Kinds.{is_ordered, is_unjudged, is_overlook, is_cycle_of}
@@ -34,9 +34,9 @@ pub first_begins : (name noun : List ℕ) (first : Option ℕ) (more : List ℕ)
 first_begins name noun first more = first_then name noun first more
 
 -- the lines up to that of the first violation
-pub ledger_then : (kind : Kind) (l : Ledger) (more : List ℕ) → length l.cycles.items ≡ MAX_EVENTS + 1
+pub ledger_then : (kind : Kind) (l : Ledger) (more : List ℕ) → length l.cycles.items ≡ LONG_CYCLE + 1
     → ledger_text (all_name kind) (unjudged_name kind) (noun kind) l ++ more
-    ≡ count_lines kind l.total l.ordered l.unjudged l.overlook (cycle_lines l.cycles.items (MAX_EVENTS + 1)
+    ≡ count_lines kind l.total l.ordered l.unjudged l.overlook (cycle_lines l.cycles.items (LONG_CYCLE + 1)
     ++ 102 ∷ first_back (codes "violation") (noun kind) l.first more)
 ledger_then kind l more size =
     six (count_line (all_name kind) l.total) (count_line (codes "ordered") l.ordered)
@@ -44,7 +44,7 @@ ledger_then kind l more size =
     (cycle_lines l.cycles.items (length l.cycles.items)) (first_line (codes "violation") (noun kind) l.first) more
     ∙ ap (λ (t : List ℕ). count_lines kind l.total l.ordered l.unjudged l.overlook t)
     (ap (λ (n : ℕ). cycle_lines l.cycles.items n ++ (first_line (codes "violation") (noun kind) l.first ++ more)) size
-    ∙ ap (λ (t : List ℕ). cycle_lines l.cycles.items (MAX_EVENTS + 1) ++ t)
+    ∙ ap (λ (t : List ℕ). cycle_lines l.cycles.items (LONG_CYCLE + 1) ++ t)
     (first_begins (codes "violation") (noun kind) l.first more))
   where
     six : (a b c d e f g : List ℕ)
@@ -73,7 +73,7 @@ short_ledger codes l is few =
       unjudged = omega (arith, is.unjudged, few, count_by-le-length is_unjudged codes);
       overlook = omega (arith, is.overlook, few, count_by-le-length is_overlook codes);
       lengths = is.lengths;
-      cycles = λ n. elim (cases_lt n (MAX_EVENTS + 1)) [
+      cycles = λ n. elim (cases_lt n (LONG_CYCLE + 1)) [
         | inl low ↦ omega (
           arith,
           is.cycles n (omega (arith, low)),
@@ -128,7 +128,7 @@ beside_fits u total ordered violations first sums fits = elim (cases_lt 0 u) [
 
 -- a text that some codes have is that of the ledger of some codes, which is read of it
 pub real_again : (kind : Kind) (codes : List ℕ) (l m : Ledger) → IsLedger codes m
-    → length l.cycles.items ≡ MAX_EVENTS + 1 → HasSameCounts l m
+    → length l.cycles.items ≡ LONG_CYCLE + 1 → HasSameCounts l m
     → l.first_unjudged ≡ place_read kind (place_beside l.first l.unjudged) m.first_unjudged → HasCodes l
 real_again Campaign codes l m is size same place =
     let fits = firsts_fit codes m is in
@@ -158,7 +158,7 @@ real_again Survey codes l m is size same place = record {
 
 -- and it tells of these codes
 pub tells_again : (kind : Kind) (codes : List ℕ) (l m : Ledger) → IsLedger codes m
-    → length l.cycles.items ≡ MAX_EVENTS + 1 → HasSameCounts l m
+    → length l.cycles.items ≡ LONG_CYCLE + 1 → HasSameCounts l m
     → l.first_unjudged ≡ place_read kind (place_beside l.first l.unjudged) m.first_unjudged → HasTextOf kind codes l
 tells_again kind codes l m is size same place = record {
   total = same.total ∙ is.total;

@@ -1,6 +1,6 @@
 -- Texts with headers as one: in the order of their seeds or lines.
-use Rattle.std.specs.Prelude.{◌≡◌, ◌⊎◌, ◌+◌, ◌-◌, ◌<◌, ◌≤◌, ◌^◌, [], ◌∷◌, ℕ, zero, suc, List, Option, None, Some, length, map, min, option_map}
-use Rattle.std.specs.Prelude.{All, slice_index_or, sum, IsPermutation, IsSortedByKey, ⊤}
+use Rattle.std.specs.Prelude.{◌≡◌, ◌⊎◌, ◌+◌, ◌-◌, ◌<◌, ◌≤◌, ◌^◌, [], ◌∷◌, ℕ, zero, suc, List, Option, None, length, map, option_map}
+use Rattle.std.specs.Prelude.{All, slice_index_or, IsPermutation, IsSortedByKey, ⊤}
 use Rattle.std.specs.List.{sum_by}
 use Rattle.std.specs.Option.{option_or}
 use Rattle.std.specs.Ordering.{nat_cmp}
@@ -11,7 +11,6 @@ use Rattle.ledger.specs.declared.ledger.Ledger.{Ledger}
 use Rattle.merging.specs.declared.error.MergeError.{MergeError}
 use Rattle.merging.specs.declared.error.MergeError.TheVariants as errors
 use Rattle.merging.specs.declared.error.MergeRefusal.{MergeRefusal}
-use Rattle.merging.specs.declared.error.Seam.{Seam}
 use Rattle.merging.specs.declared.joined.Gaps.{Gaps}
 use Rattle.merging.specs.declared.joined.Gaps.TheVariants.{Refuse, Count}
 use Rattle.merging.specs.declared.joined.Joined.{Joined}
@@ -80,6 +79,7 @@ first_from base (s ∷ order) = option_or (place_from base s) (first_from base o
 abbrev pub by_seed : Counted → ℕ → List Section → Ledger → Ledger
 by_seed (counted.Campaign setup) base order l = record l { first = first_from base order }
 by_seed counted.Survey base order l = l
+by_seed counted.LongSurvey base order l = l
 
 abbrev pub told : ℕ → Header → List Section → Ledger → Ledger
 told zero h order l = l

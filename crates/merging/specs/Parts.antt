@@ -1,9 +1,9 @@
 -- The parts of a text.
-use Rattle.std.specs.Prelude.{◌≡◌, ◌⊎◌, ◌+◌, ◌++◌, ◌∷◌, ◌<◌, ◌^◌, ◌==◌, [], ℕ, List, Option, None, Some, IfSome, ⊤}
-use Rattle.std.specs.Prelude.{codes, decimal, if◌then◌else◌, length, slice_index}
-use Rattle.common.specs.declared.limits.TheConstants.{MAX_EVENTS}
+use Rattle.std.specs.Prelude.{◌≡◌, ◌⊎◌, ◌+◌, ◌++◌, ◌∷◌, ◌<◌, ◌≤◌, ◌^◌, ◌==◌, [], ℕ, List, Option, None, Some, IfSome, ⊤}
+use Rattle.std.specs.Prelude.{codes, if◌then◌else◌, length, slice_index}
+use Rattle.ledger.specs.declared.code.TheConstants.{LONG_CYCLE}
 use Rattle.ledger.specs.declared.ledger.Ledger.{Ledger}
-use Rattle.ledger.specs.Counted.{count_line, first_line}
+use Rattle.ledger.specs.Counted.{count_line, first_line, length_name}
 use Rattle.machine.specs.declared.fault.Fault.{Fault}
 use Rattle.headers.specs.declared.header.Counted.{Counted}
 use Rattle.headers.specs.declared.header.Counted.TheVariants as counted
@@ -30,7 +30,7 @@ count_lines kind n o u v more = count_line (all_name kind) n ++ (count_line (cod
 -- the line of a longer cycle than this stands next, or that of the first violation
 abbrev pub IsLater : ℕ → List ℕ → Type 0
 IsLater cycle text = ((more : List ℕ) × (text ≡ 102 ∷ more))
-    ⊎ ((n : ℕ) × (more : List ℕ) × (cycle < n) × (n < 2 ^ 64) × (text ≡ codes "cycle " ++ (decimal n ++ 58 ∷ more)))
+    ⊎ ((n : ℕ) × (more : List ℕ) × (cycle < n) × (n ≤ LONG_CYCLE) × (text ≡ codes "cycle " ++ (length_name n ++ 58 ∷ more)))
 
 -- a ledger with these counts and these first places has 64 bits for each
 pub record Is64BitLedger (l : Ledger) : Type 0 where
@@ -38,7 +38,7 @@ pub record Is64BitLedger (l : Ledger) : Type 0 where
   pub ordered : l.ordered < 2 ^ 64
   pub unjudged : l.unjudged < 2 ^ 64
   pub overlook : l.overlook < 2 ^ 64
-  pub lengths : length l.cycles.items ≡ MAX_EVENTS + 1
+  pub lengths : length l.cycles.items ≡ LONG_CYCLE + 1
   pub cycles : Are64Bit l.cycles.items
   pub first : Is64BitPlace l.first
   pub first_unjudged : Is64BitPlace l.first_unjudged
@@ -95,3 +95,4 @@ pub record Is64BitSetup (s : Setup) : Type 0 where
 abbrev pub Is64BitCounted : Counted → Type 0
 Is64BitCounted (counted.Campaign s) = Is64BitSetup s
 Is64BitCounted counted.Survey = ⊤
+Is64BitCounted counted.LongSurvey = ⊤

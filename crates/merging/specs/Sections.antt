@@ -1,6 +1,6 @@
 -- Texts with headers, and how they follow each other.
-use Rattle.std.specs.Prelude.{◌≡◌, ◌≢◌, ◌+◌, ◌-◌, ◌++◌, ◌∷◌, ◌<◌, ◌≤◌, ◌^◌, [], ℕ, List, Option, Some, None, IfSome, All, find, position}
-use Rattle.std.specs.Prelude.{is_some, length, map, min, option_map, slice_index_or, sum, take, IsPermutation}
+use Rattle.std.specs.Prelude.{◌≡◌, ◌≢◌, ◌+◌, ◌++◌, ◌∷◌, ◌<◌, ◌≤◌, [], ℕ, List, Option, IfSome, All, position}
+use Rattle.std.specs.Prelude.{length}
 use Rattle.std.specs.List.{flat_map}
 use Rattle.headers.specs.declared.header.Counted.{Counted}
 use Rattle.headers.specs.declared.header.Counted.TheVariants as counted
@@ -9,7 +9,6 @@ use Rattle.headers.specs.Headers.{IsHeader, header_line}
 use Rattle.ledger.specs.Kinds.{is_violation}
 use Rattle.merging.specs.declared.kind.Kind.{Kind}
 use Rattle.merging.specs.declared.kind.Kind.TheVariants.{Campaign, Survey}
-use Rattle.merging.specs.TextOf.{HasTextOf}
 use Rattle.merging.specs.Texts.{BeginsWithLedger}
 
 -- a text of counts, its header, and the first violation that it tells
@@ -22,11 +21,13 @@ pub record Section : Type 0 where
 abbrev pub kind_of : Counted → Kind
 kind_of (counted.Campaign setup) = Campaign
 kind_of counted.Survey = Survey
+kind_of counted.LongSurvey = Survey
 
 -- a campaign counts as many trials as its header says; a survey no more recordings than lines
 abbrev pub Fits : Counted → ℕ → ℕ → Type 0
 Fits (counted.Campaign setup) count n = n ≡ count
 Fits counted.Survey count n = n ≤ count
+Fits counted.LongSurvey count n = n ≤ count
 
 -- these codes have the text
 abbrev pub IsTextOfCodes : Section → List ℕ → Type 0

@@ -1,6 +1,6 @@
 -- What a text tells of codes.
 use Rattle.std.specs.Prelude.{◌≡◌, ◌+◌, ℕ, List, length, count_by, position, ⊤}
-use Rattle.common.specs.declared.limits.TheConstants.{MAX_EVENTS}
+use Rattle.ledger.specs.declared.code.TheConstants.{LONG_CYCLE}
 use Rattle.ledger.specs.declared.ledger.Ledger.{Ledger}
 use Rattle.ledger.specs.Kinds.{is_ordered, is_unjudged, is_overlook, is_violation}
 use Rattle.ledger.specs.Counts.{AreCounts}
@@ -18,7 +18,7 @@ pub record HasTextOf (kind : Kind) (codes : List ℕ) (l : Ledger) : Type 0 wher
   pub ordered : l.ordered ≡ count_by is_ordered codes
   pub unjudged : l.unjudged ≡ count_by is_unjudged codes
   pub overlook : l.overlook ≡ count_by is_overlook codes
-  pub lengths : length l.cycles.items ≡ MAX_EVENTS + 1
+  pub lengths : length l.cycles.items ≡ LONG_CYCLE + 1
   pub cycles : AreCounts codes l.cycles.items
   pub first : l.first ≡ position is_violation codes
   pub first_unjudged : HasUnjudgedOf kind codes l

@@ -1,12 +1,15 @@
 //! What is left of a text.
 
 ghost use Rattle.std.specs.Prelude.{◌≡◌, ◌<◌, ◌≤◌, ◌^◌, ◌++◌, ◌∷◌, ℕ, List, Some, decimal, false, length, slice_index};
-ghost use Rattle.std.specs.Prelude.{true};
+ghost use Rattle.std.specs.Prelude.{None, true};
 ghost use Rattle.program.specs.Numbers.{is_digit};
 ghost use Rattle.std.specs.Prelude.{position};
+ghost use Rattle.ledger.specs.declared.code.TheConstants.{LONG_CYCLE};
+ghost use Rattle.ledger.specs.Counted.{length_name};
 ghost use Rattle.merging.specs.Digits.{IsNoDigit, is_space};
 
 use itoa::Buffer;
+use ledger::LONG_CYCLE;
 use std::marker::Model;
 
 /// How many digits a text begins with.
@@ -38,11 +41,26 @@ fn number_of(digits: &[u8]) -> Option<usize>
 
 /// The number that a text begins with, if it does.
 fn leading(text: &[u8]) -> Option<usize>
-    ensures { (n b : ℕ) (more : List ℕ) → n < 2 ^ 64 → IsNoDigit b → text.now ≡ decimal n ++ b ∷ more
+    ensures found { (n b : ℕ) (more : List ℕ) → n < 2 ^ 64 → IsNoDigit b → text.now ≡ decimal n ++ b ∷ more
         → result ≡ Some n }
+    ensures none { (b : ℕ) (more : List ℕ) → IsNoDigit b → text.now ≡ b ∷ more → result ≡ None }
 {
     let end = digits(text);
+    if end == 0 {
+        return None;
+    }
     number_of(&text[..end])
+}
+
+/// The length of cycles that a text begins with, if it does.
+fn leading_length(text: &[u8]) -> Option<usize>
+    ensures { (n : ℕ) (more : List ℕ) → n ≤ LONG_CYCLE → text.now ≡ length_name n ++ 58 ∷ more → result ≡ Some n }
+{
+    match leading(text) {
+        Some(cycle) => Some(cycle),
+        None if text.starts_with(b"over 512") => Some(LONG_CYCLE),
+        None => None,
+    }
 }
 
 /// The place of the first space of a text, if it has one.
@@ -70,6 +88,8 @@ impl<'a> Cursor<'a> {
     ghost use Rattle.std.specs.Prelude.{◌≡◌, ◌<◌, ◌^◌, ◌++◌, ◌∷◌, ◌↔◌, [], ℕ, List, Some, IfSome, IsTrue, decimal};
     ghost use Rattle.std.specs.Prelude.{None, codes, false, length};
     ghost use Rattle.std.specs.Prelude.{MatchOption, position};
+    ghost use Rattle.ledger.specs.declared.code.TheConstants.{LONG_CYCLE};
+    ghost use Rattle.ledger.specs.Counted.{length_name};
     ghost use Rattle.merging.specs.Digits.{IsNoDigit, is_space};
 
     /// A whole text.
@@ -106,12 +126,12 @@ impl<'a> Cursor<'a> {
 
     /// The length of the cycle whose line stands next, if one does.
     pub(crate) fn next_cycle(&self) -> Option<usize>
-        ensures cycle { (n : ℕ) (more : List ℕ) → n < 2 ^ 64
-            → self.now ≡ codes "cycle " ++ (decimal n ++ 58 ∷ more) → result ≡ Some n }
+        ensures cycle { (n : ℕ) (more : List ℕ) → n ≤ LONG_CYCLE
+            → self.now ≡ codes "cycle " ++ (length_name n ++ 58 ∷ more) → result ≡ Some n }
         ensures none { (more : List ℕ) → self.now ≡ 102 ∷ more → result ≡ None }
     {
         match self.rest.strip_prefix(b"cycle ") {
-            Some(rest) => leading(rest),
+            Some(rest) => leading_length(rest),
             None => None,
         }
     }

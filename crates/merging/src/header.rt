@@ -114,6 +114,9 @@ fn counted(rest: &mut Cursor<'_>) -> Option<Counted>
     if rest.take(b"# tsotest survey --from ") {
         return Some(Counted::Survey);
     }
+    if rest.take(b"# tsotest survey --long --from ") {
+        return Some(Counted::LongSurvey);
+    }
     match setup(rest) {
         Some(setup) => Some(Counted::Campaign(setup)),
         None => None,
@@ -139,6 +142,7 @@ fn can_begin(counted: &Counted, first: u64) -> bool
     match counted {
         Counted::Campaign(setup) => is_setup(setup),
         Counted::Survey => first > 0,
+        Counted::LongSurvey => first > 0,
     }
 }
 

@@ -92,6 +92,7 @@ pub fn kind_of(counted: &Counted) -> Kind
     match counted {
         Counted::Campaign(_) => Kind::Campaign,
         Counted::Survey => Kind::Survey,
+        Counted::LongSurvey => Kind::Survey,
     }
 }
 
@@ -102,6 +103,7 @@ fn fits(header: &Header, total: usize) -> bool
     match header.counted {
         Counted::Campaign(_) => total as u64 == header.count,
         Counted::Survey => total as u64 <= header.count,
+        Counted::LongSurvey => total as u64 <= header.count,
     }
 }
 

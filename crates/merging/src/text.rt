@@ -2,7 +2,7 @@
 
 ghost use Rattle.std.specs.Prelude.{◌≡◌, ◌<◌, ◌^◌, ◌+◌, ◌++◌, ℕ, List, Option, Some, IfErr, IfOk, IfSome, MatchOption};
 ghost use Rattle.std.specs.Prelude.{length};
-ghost use Rattle.common.specs.declared.limits.TheConstants.{MAX_EVENTS};
+ghost use Rattle.ledger.specs.declared.code.TheConstants.{LONG_CYCLE};
 ghost use Rattle.ledger.specs.declared.ledger.Ledger.{Ledger as Book};
 ghost use Rattle.ledger.specs.Counted.{ledger_text};
 ghost use Rattle.merging.specs.Merges.{IsTextRead, IsNoText};
@@ -57,7 +57,7 @@ fn counts(rest: &mut Cursor<'_>, kind: Kind) -> Option<FirstCounts>
 
 /// Takes all lines up to that of the first violation. Fails only if out of memory.
 fn counted(rest: &mut Cursor<'_>, alloc: Global, kind: Kind) -> Result<Option<Ledger>, OutOfMemory>
-    ensures found { IfOk result (λ r. IfSome r (λ l. (length l.cycles.items ≡ MAX_EVENTS + 1)
+    ensures found { IfOk result (λ r. IfSome r (λ l. (length l.cycles.items ≡ LONG_CYCLE + 1)
         × (rest.old ≡ ledger_text (all_name kind) (unjudged_name kind) (noun kind) l ++ rest.new))) }
     ensures only { IfOk result (λ r. (l : Book) (more : List ℕ) → Is64BitLedger l
         → rest.old ≡ ledger_text (all_name kind) (unjudged_name kind) (noun kind) l ++ more
@@ -110,7 +110,7 @@ fn unjudged_place(rest: &mut Cursor<'_>, kind: Kind, other: Option<usize>) -> Op
 
 /// Takes a whole text, whatever it counts. Fails only if out of memory.
 fn whole(rest: &mut Cursor<'_>, alloc: Global, kind: Kind) -> Result<Option<Ledger>, OutOfMemory>
-    ensures found { IfOk result (λ r. IfSome r (λ l. (length l.cycles.items ≡ MAX_EVENTS + 1)
+    ensures found { IfOk result (λ r. IfSome r (λ l. (length l.cycles.items ≡ LONG_CYCLE + 1)
         × (rest.old ≡ text_of kind l ++ rest.new))) }
     ensures only { IfOk result (λ r. (l : Book) (more : List ℕ) → Is64BitLedger l → rest.old ≡ text_of kind l ++ more
         → MatchOption r ⊥ (λ m. HasSameCounts m l

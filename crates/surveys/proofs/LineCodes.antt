@@ -1,12 +1,12 @@
 -- The code of one line more.
-use Rattle.std.proofs.Common.{◌≡◌, ◌++◌, ◌∷◌, ◌∙◌, [], ℕ, List, ap, filter, length, refl, subst, sym}
+use Rattle.std.proofs.Common.{◌≡◌, ◌++◌, ◌∷◌, ◌∙◌, [], ℕ, List, ap, filter, refl, subst, sym}
 use Rattle.std.proofs.lemmas.List.{append-nil, map-append}
 use Rattle.ledger.specs.declared.finding.Finding.{Finding}
 use Rattle.ledger.specs.Findings.{finding_code}
 use Rattle.surveys.specs.declared.kind.LineKind.{LineKind}
 use Rattle.surveys.specs.Coded.{AreFindingCodes, AreCodesUpTo, AreLineCodes}
 use Rattle.surveys.specs.Found.{AreFindings, codes_of}
-use Rattle.surveys.specs.Lines.{IsCut, IsSplit, is_some_line, lines}
+use Rattle.surveys.specs.Lines.{IsSplit, is_some_line, lines}
 use Rattle.surveys.proofs.Found.{findings_append}
 use Rattle.surveys.proofs.Shown.{next_line}
 

@@ -9,7 +9,7 @@ use Rattle.ledger.specs.declared.survey_ledger.SurveyLedger.{SurveyLedger}
 use Rattle.surveys.specs.declared.kind.LineKind.{LineKind}
 use Rattle.surveys.specs.declared.error.SurveyError.{SurveyError}
 use Rattle.surveys.specs.declared.error.SurveyError.TheVariants.{ReadFailed, WriteFailed, OutOfMemory, TooLong}
-use Rattle.surveys.specs.Shown.{IsReadBeforeLine, IsReadOn}
+use Rattle.surveys.specs.Shown.{IsReadBeforeLine}
 use Rattle.surveys.specs.Surveys.{IsLong, IsLongRead}
 use Rattle.surveys.specs.Tallies.{IsUnderWay}
 use Rattle.surveys.proofs.Blocks.{filled}

@@ -1,7 +1,7 @@
 -- A line is found block by block.
 use Rattle.std.proofs.Common.{◌≡◌, ◌+◌, ◌<◌, ◌≤◌, ◌++◌, ◌∷◌, [], ℕ, true, List, Option, Some, None, arith, ap, refl, sym, subst, ◌∙◌}
-use Rattle.std.proofs.Common.{length, length-append, get_or, take, drop, append_assoc, append-nil, filter}
-use Rattle.std.proofs.Common.{Vec, Global, lt-ltb, le-ltb}
+use Rattle.std.proofs.Common.{length, length-append, get_or, take, drop, append_assoc, filter}
+use Rattle.std.proofs.Common.{Vec, Global, lt-ltb}
 use Rattle.std.proofs.KnownBytes.{Consumes-nil, Consumes-trans}
 use Rattle.std.proofs.lemmas.List.{get_or_append_left, get_or-append-add, length-take, take-append-drop}
 use Rattle.std.specs.Io.KnownBytes.{Consumes}

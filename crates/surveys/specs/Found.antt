@@ -1,14 +1,18 @@
 -- What is found in lines.
-use Rattle.std.specs.Prelude.{◌≡◌, ◌≢◌, ◌⊎◌, ℕ, List, Result, Ok, Err, map}
+use Rattle.std.specs.Prelude.{◌≡◌, ◌≢◌, ◌⊎◌, ℕ, List, Result, Ok, Err, length, map}
 use Rattle.std.specs.List.{AllZip}
 use Rattle.recording.specs.Execution.{Execution}
 use Rattle.recording.specs.declared.fault.RecError.{RecError}
 use Rattle.recording.specs.declared.fault.RecError.TheVariants.{OutOfMemory}
-use Rattle.recorder.specs.Reading.{IsReadingResult}
+use Rattle.recording.specs.declared.size.RecordingSize.TheVariants.{Long}
+use Rattle.recorder.specs.Reading.{IsReadingOf, IsReadingResult}
 use Rattle.verdicts.specs.declared.verdict.Verdict.{Verdict}
 use Rattle.verdicts.specs.Judgement.{IsVerdict}
+use Rattle.long.specs.declared.answer.LongAnswer.{LongAnswer}
+use Rattle.long.specs.declared.answer.LongAnswer.TheVariants as answers
+use Rattle.long.specs.Answer.{IsLongAnswer}
 use Rattle.ledger.specs.declared.finding.Finding.{Finding}
-use Rattle.ledger.specs.declared.finding.Finding.TheVariants.{Ordered, Impossible, Unfinished, Refused}
+use Rattle.ledger.specs.declared.finding.Finding.TheVariants.{Ordered, Overlook, Cycle, Impossible, Unfinished, Refused}
 use Rattle.ledger.specs.Findings.{finding_code, finding_of}
 use Rattle.values.specs.Values.{AreAllowed, Values}
 use Rattle.values_text.specs.Reading.{IsValuesReading}
@@ -43,6 +47,27 @@ pub record IsRecordingFinding (bytes : List ℕ) (finding : Finding) : Type 0 wh
   pub is_given : IsLineResult bytes given
   pub finds : finding ≡ given_finding given
 
+-- what an answer to a recording of any length finds
+abbrev pub long_finding : LongAnswer → Finding
+long_finding (answers.Order order) = Ordered
+long_finding (answers.Overlook load store) = Overlook load store
+long_finding (answers.Cycle cycle) = Cycle (length cycle.items)
+
+-- the bytes give a recording within the large limits, and this is found of an answer to it
+pub record IsLongFound (bytes : List ℕ) (finding : Finding) : Type 0 where
+  pub recording : Execution
+  pub answer : LongAnswer
+  pub read : IsReadingOf Long bytes (Ok recording)
+  pub found : IsLongAnswer recording answer
+  pub finds : finding ≡ long_finding answer
+
+-- the bytes give none, and this refusal is found; it is not that memory ran out
+pub record IsNoLongRecording (bytes : List ℕ) (finding : Finding) : Type 0 where
+  pub refusal : RecError
+  pub read : IsReadingOf Long bytes (Err refusal)
+  pub known : refusal ≢ OutOfMemory
+  pub finds : finding ≡ Refused refusal
+
 -- what is found of values: that TSO allows them, or that it does not; or that moves lead to more states than this
 abbrev pub IsValuesFound : Values → ℕ → Finding → Type 0
 IsValuesFound v states Ordered = AreAllowed v
@@ -66,6 +91,7 @@ pub record AreNoValues (bytes : List ℕ) (finding : Finding) : Type 0 where
 -- what is found in the bytes of a line of this kind
 abbrev pub IsLineFinding : LineKind → List ℕ → Finding → Type 0
 IsLineFinding kinds.Recording bytes finding = IsRecordingFinding bytes finding
+IsLineFinding kinds.LongRecording bytes finding = IsLongFound bytes finding ⊎ IsNoLongRecording bytes finding
 IsLineFinding (kinds.Values states) bytes finding = AreCompleted bytes states finding ⊎ AreNoValues bytes finding
 
 -- what is found in lines, in order

@@ -86,6 +86,7 @@ fn is_same(one: LineKind, other: LineKind) -> bool
 {
     match (one, other) {
         (LineKind::Recording, LineKind::Recording) => true,
+        (LineKind::LongRecording, LineKind::LongRecording) => true,
         (LineKind::Values(most), LineKind::Values(states)) => most == states,
         _ => false,
     }

@@ -38,7 +38,7 @@ fn put_finding(alloc: Global, out: &mut Vec<u8>, finding: Finding) -> Result<(),
     match finding {
         Finding::Ordered => Ok(out.extend_from_slice(b"ordered\n")?),
         Finding::Overlook { load, store } => put_overlook(out, load, store),
-        Finding::Cycle(length) => put_length(out, length as usize),
+        Finding::Cycle(length) => put_length(out, length),
         Finding::Impossible => Ok(out.extend_from_slice(b"impossible\n")?),
         Finding::Unfinished => Ok(out.extend_from_slice(b"unfinished\n")?),
         Finding::Refused(refusal) => put_refusal(alloc, out, refusal),

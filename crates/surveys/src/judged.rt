@@ -8,15 +8,20 @@ ghost use Rattle.verdicts.specs.Judgement.{IsVerdict};
 ghost use Rattle.ledger.specs.Findings.{finding_of};
 ghost use Rattle.ledger.specs.declared.finding.Finding.TheVariants.{Refused};
 ghost use Rattle.recording.specs.declared.fault.RecError.TheVariants as refusals;
-ghost use Rattle.surveys.specs.Found.{AreCompleted, AreNoValues, IsLineFinding, IsRecordingFinding, IsValuesFound};
+ghost use Rattle.long.specs.declared.answer.LongAnswer.{LongAnswer};
+ghost use Rattle.long.specs.Answer.{IsLongAnswer};
+ghost use Rattle.surveys.specs.Found.{AreCompleted, AreNoValues, IsLineFinding, IsLongFound, IsNoLongRecording};
+ghost use Rattle.surveys.specs.Found.{IsRecordingFinding, IsValuesFound, long_finding};
 
 use crate::kind::LineKind;
 use common::{Gate, OutOfMemory};
 use completion::{Answer, complete};
 use judge::judge_alone;
 use ledger::Finding;
-use recorder::read_recording;
-use recording::{RecError, Recording};
+use long::{LongAnswer, judge_long};
+use recorder::{read_recording, read_recording_of};
+use recording::{RecError, Recording, RecordingSize};
+use relations::Places;
 use std::alloc::Global;
 use values::Values;
 use values_text::read_values;
@@ -55,6 +60,41 @@ fn finding_of_recording(alloc: Global, bytes: &[u8]) -> Result<Finding, OutOfMem
     }
 }
 
+/// What an answer to a recording of any length finds.
+fn long_finding(answer: &LongAnswer) -> Finding
+    ensures { result ≡ long_finding answer.now }
+{
+    match answer {
+        LongAnswer::Order(_) => Finding::Ordered,
+        LongAnswer::Overlook(load, store) => Finding::Overlook {
+            load: *load,
+            store: *store,
+        },
+        LongAnswer::Cycle(cycle) => Finding::Cycle(cycle.len()),
+    }
+}
+
+/// What is found of a recording of any length.
+fn found_in_long(alloc: Global, recording: &Recording) -> Result<Finding, OutOfMemory>
+    ensures { IfOk result (λ f. (answer : LongAnswer) × IsLongAnswer recording.now answer
+        × (f ≡ long_finding answer)) }
+{
+    let places = Places::of(alloc, recording)?;
+    let answer = judge_long(alloc, &places)?;
+    Ok(long_finding(&answer))
+}
+
+/// What is found in the recording within the large limits that the bytes of a line give, or its refusal. It does not
+/// block. Fails only if out of memory.
+fn finding_of_long(alloc: Global, bytes: &[u8]) -> Result<Finding, OutOfMemory>
+    ensures { IfOk result (λ f. IsLongFound bytes.now f ⊎ IsNoLongRecording bytes.now f) }
+{
+    match read_recording_of(alloc, bytes, RecordingSize::Long) {
+        Ok(recording) => found_in_long(alloc, &recording),
+        Err(refusal) => refused(refusal),
+    }
+}
+
 /// What values come to, where no more than this many states are seen.
 fn found_of(alloc: Global, values: &Values, states: usize) -> Result<Finding, OutOfMemory>
     ensures { IfOk result (IsValuesFound values.now states) }
@@ -87,6 +127,7 @@ pub(crate) fn finding_of_line(
 {
     match kind {
         LineKind::Recording => finding_of_recording(alloc, bytes),
+        LineKind::LongRecording => finding_of_long(alloc, bytes),
         LineKind::Values(states) => finding_of_values(alloc, bytes, states),
     }
 }

@@ -5,6 +5,8 @@
 pub enum LineKind {
     /// A recording, which is judged.
     Recording,
+    /// A recording within the large limits, which is judged as one of any length.
+    LongRecording,
     /// Values, which are completed where that takes no more than this many states.
     Values(usize),
 }

@@ -1,18 +1,17 @@
 -- A trial has one code.
 use Rattle.std.proofs.Common.{◌≡◌, ◌<◌, ◌≤◌, inl, inr, ℕ, List, get_or, refl, sym, ap, ◌∙◌, subst}
-use Rattle.std.proofs.Common.{◌+◌, arith, sum}
+use Rattle.std.proofs.Common.{◌+◌, arith, length, sum}
 use Rattle.std.specs.Prelude.{Option, Some, None}
 use Rattle.std.proofs.lemmas.Bool.{cases_lt}
 use Rattle.std.proofs.lemmas.Bool.Decides.{nat_tests}
 use Rattle.std.proofs.lemmas.List.{ext_get_or}
-use Rattle.common.specs.declared.limits.TheConstants.{MAX_EVENTS}
 use Rattle.machine.specs.Configuration.{Configuration, IsAtEnd, recording_of}
 use Rattle.verdicts.specs.declared.verdict.Verdict.{Verdict}
 use Rattle.verdicts.specs.declared.verdict.Verdict.TheVariants.{Ordered, Overlook, Cycle}
-use Rattle.ledger.specs.declared.code.TheConstants.{CYCLE, OVERLOOK}
+use Rattle.ledger.specs.declared.code.TheConstants.{CYCLE, LONG_CYCLE, OVERLOOK}
 use Rattle.ledger.specs.declared.ledger.Ledger.{Ledger}
 use Rattle.ledger.specs.FindingLaws.{one_finding}
-use Rattle.ledger.specs.Findings.{finding_code}
+use Rattle.ledger.specs.Findings.{counted_length, finding_code}
 use Rattle.ledger.specs.Counts.{IsLedger, IsSameLedger}
 use Rattle.ledger.specs.LedgerLaws as laws
 use Rattle.trials.specs.Campaigns.{Plan}
@@ -77,8 +76,8 @@ one_ledger p codes others l m x one y two = laws.one_ledger codes l m one (subst
 overlook_kind : (n : ℕ) → OVERLOOK ≤ n → HasItsKind n
 overlook_kind n high = (grind (arith, nat_tests, high), grind (arith, nat_tests, high))
 
--- and a cycle of no more events than a recording may have
-cycle_kind : (k : ℕ) → k ≤ MAX_EVENTS → HasItsKind (CYCLE + k)
+-- and a cycle of any length
+cycle_kind : (k : ℕ) → k ≤ LONG_CYCLE → HasItsKind (CYCLE + k)
 cycle_kind k short = (grind (arith, nat_tests, short), grind (arith, nat_tests, short))
 
 -- so has every end of a run its kind
@@ -86,7 +85,8 @@ end_kind : (verdict : Option Verdict) → IsShortEnd verdict → HasItsKind (end
 end_kind None short = (refl, refl)
 end_kind (Some (Ordered order)) short = (refl, refl)
 end_kind (Some (Overlook load store)) short = overlook_kind _ (omega arith)
-end_kind (Some (Cycle certificate)) short = cycle_kind _ short
+end_kind (Some (Cycle certificate)) short =
+    cycle_kind (counted_length (length certificate.cycle.items)) (omega arith)
 
 -- and every trial
 pub one_kind : (p : Plan) (k n : ℕ) → IsCode p k n → HasItsKind n

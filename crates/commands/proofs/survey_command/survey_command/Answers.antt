@@ -22,8 +22,8 @@ returns-in_ok-headed-in-None-clause-ok g c =
           c.in_ok-headed-in-None.ensures,
     )
 
-pub returns-in_ok-line_answer-in-Ok-Some-clause-ok : goal.returns-in_ok-line_answer-in-Ok-Some-clause-ok
-returns-in_ok-line_answer-in-Ok-Some-clause-ok g c =
+pub returns-in_ok-shown-in-Ok-Some-clause-ok : goal.returns-in_ok-shown-in-Ok-Some-clause-ok
+returns-in_ok-shown-in-Ok-Some-clause-ok g c =
     let r = rw c.in-Ok-Some.field-0-is at c.in-Ok-Some.ensures.read in
     let new = c.new-lines.ensures in
     let given = lines_given c.range_of.result _ _ (g.H.Host.bytes c.args.host.now c.as_str.result.now) _ _ r.bytes
@@ -35,5 +35,5 @@ returns-in_ok-line_answer-in-Ok-Some-clause-ok g c =
           c.range_of.ensures given),
       c.as_slice.result.now,
       rw c.as_slice.ensures.value r.is,
-      c.in_ok-line_answer-in-Ok-Some.ensures,
+      c.in_ok-shown-in-Ok-Some.ensures,
     )

@@ -1,4 +1,5 @@
 use Rattle.ledger.specs.LedgerLaws.{adds_up, joined, one_ledger}
+use Rattle.ledger.proofs.FindingKinds.{every_kind}
 use Rattle.ledger.proofs.RealLemmas.{firsts_fit, fitting_has_codes}
 use Rattle.ledger.proofs.law.ledgers_add_up.Goals as goal
 
@@ -16,3 +17,6 @@ returns-clause-fits c = firsts_fit
 
 pub returns-clause-codes : goal.returns-clause-codes
 returns-clause-codes c = fitting_has_codes
+
+pub returns-clause-kinds : goal.returns-clause-kinds
+returns-clause-kinds c = every_kind

@@ -19,7 +19,8 @@ returns-in_default-clause-only c counts more size short is =
     let h = c.loop-cycle.invariant in
     let e = c.cycle_count.ensures in
     let read = next_count counts more c.loop-cycle.rest c.loop-cycle.cycle c.cycle_count.result c.cycle_count.new.rest
-    (omega (arith, c.loop-cycle-test.true)) short (h.only counts more size short is).1 e.here e.later in
+    (omega (arith, c.loop-cycle-test.true)) short (h.only counts more size short is).1
+    (λ n back some small line. e.here n back (omega (arith, c.loop-cycle-test.true)) some small line) e.later in
     absurd (c.in_default.not-Some (get_or counts c.loop-cycle.cycle 0) read.0)
 
 pub loop-cycle-preserved : goal.loop-cycle-preserved
@@ -38,7 +39,8 @@ loop-cycle-preserved c =
           let before = h.only counts more size short is in
           let e = c.cycle_count.ensures in
           let read = next_count counts more c.loop-cycle.rest k c.cycle_count.result c.cycle_count.new.rest
-          (omega (arith, c.loop-cycle-test.true)) short before.1 e.here e.later in
+          (omega (arith, c.loop-cycle-test.true)) short before.1
+          (λ m back some small line. e.here m back (omega (arith, c.loop-cycle-test.true)) some small line) e.later in
           let same : n ≡ get_or counts k 0 = some_is n (get_or counts k 0) (sym c.in-Some.is ∙ read.0) in (
             λ v low. ap (λ (l : List ℕ). get_or l v 0) pushed ∙ elim (cases_lt v k) [
               | inl lower ↦ get_or_append_left items (n ∷ []) 0 v (omega (arith, lower, h.size)) ∙ before.0 v lower
@@ -57,7 +59,7 @@ loop-cycle-preserved c =
 pub returns-clause-found : goal.returns-clause-found
 returns-clause-found c =
     let h = c.loop-cycle.invariant in
-    let all : c.loop-cycle.cycle ≡ 513 = omega (arith, c.loop-cycle-test.false, c.loop-cycle.auto.cycle-end) in (
+    let all : c.loop-cycle.cycle ≡ 514 = omega (arith, c.loop-cycle-test.false, c.loop-cycle.auto.cycle-end) in (
       h.size ∙ all,
       h.text ∙ ap (λ (k : ℕ). cycle_lines c.loop-cycle.counts.items k ++ c.loop-cycle.rest) all,
     )
@@ -66,7 +68,7 @@ pub returns-clause-only : goal.returns-clause-only
 returns-clause-only c counts more size short is =
     let h = c.loop-cycle.invariant in
     let o = h.only counts more size short is in
-    let all : c.loop-cycle.cycle ≡ 513 = omega (arith, c.loop-cycle-test.false, c.loop-cycle.auto.cycle-end) in (
+    let all : c.loop-cycle.cycle ≡ 514 = omega (arith, c.loop-cycle-test.false, c.loop-cycle.auto.cycle-end) in (
       ext_get_or 0 c.loop-cycle.counts.items counts (omega (arith, h.size, all, size))
           (λ v low. o.0 v (omega (arith, low, h.size))),
       o.1 ∙ lines_end counts (102 ∷ more) c.loop-cycle.cycle all,

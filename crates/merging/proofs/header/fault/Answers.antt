@@ -1,4 +1,4 @@
-use Rattle.std.proofs.Common.{◌≡◌, ◌∙◌, List, ℕ, ap}
+use Rattle.std.proofs.Common.{◌∙◌, ap}
 use Rattle.headers.specs.Faults.{fault_name, fault_named}
 use Rattle.merging.proofs.HeaderTexts.{name_names, name_unspaced}
 use Rattle.merging.proofs.header.fault.Goals as goal

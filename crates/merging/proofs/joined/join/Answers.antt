@@ -1,4 +1,4 @@
-use Rattle.std.proofs.Common.{◌≡◌, ◌∙◌, ◌<◌, ℕ, List, IsPermutation, IsSortedByKey, ap, arith, inl, inr, length, map, subst, sym}
+use Rattle.std.proofs.Common.{◌≡◌, ℕ, List, IsPermutation, IsSortedByKey, ap, arith, inr, length, map, subst, sym}
 use Rattle.std.specs.Ordering.{nat_cmp}
 use Rattle.std.proofs.lemmas.List.{length-map}
 use Rattle.std.proofs.lemmas.List.Sorted.{All-permutation, answers_always, length_permutation}

@@ -1,4 +1,4 @@
-use Rattle.std.proofs.Common.{◌≡◌, ◌∙◌, ◌+◌, [], ℕ, List, None, ap, arith, map, subst}
+use Rattle.std.proofs.Common.{◌∙◌, [], ℕ, List, None, ap, arith, map, subst}
 use Rattle.merging.specs.Merges.{IsMerge}
 use Rattle.merging.specs.Sections.{Section}
 use Rattle.merging.proofs.Orders.{ascends, ends_last, seam_no_join}

@@ -1,4 +1,4 @@
-use Rattle.std.proofs.Common.{◌≡◌, ◌∙◌, ℕ, List, arith, length, map, subst, sym}
+use Rattle.std.proofs.Common.{◌≡◌, ℕ, List, arith, length, map, subst, sym}
 use Rattle.std.proofs.lemmas.List.{length-map}
 use Rattle.merging.specs.Merges.{IsFileAdded, IsFileError}
 use Rattle.merging.proofs.Files.{all_added, file_fault, file_more}

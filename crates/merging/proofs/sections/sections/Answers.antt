@@ -1,6 +1,6 @@
-use Rattle.std.proofs.Common.{◌≡◌, ◌∙◌, ◌+◌, ℕ, List, arith, get_or, length, map, subst, sym, take}
-use Rattle.std.proofs.lemmas.List.{length-map, take_more}
-use Rattle.merging.specs.Sections.{AreSectionsOf, HasSections, Section}
+use Rattle.std.proofs.Common.{◌≡◌, ◌∙◌, ℕ, List, arith, length, map, subst}
+use Rattle.std.proofs.lemmas.List.{length-map}
+use Rattle.merging.specs.Sections.{HasSections}
 use Rattle.merging.specs.Unread.{IsUnreadFile}
 use Rattle.merging.proofs.Files.{bytes_at}
 use Rattle.merging.proofs.SectionFiles.{file_more, unread_located}

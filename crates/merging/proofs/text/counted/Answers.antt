@@ -1,5 +1,5 @@
 use Rattle.std.proofs.Common.{◌+◌, ◌++◌, ◌∷◌, ◌∙◌, ℕ, List, None, ap, codes, sym}
-use Rattle.common.specs.declared.limits.TheConstants.{MAX_EVENTS}
+use Rattle.ledger.specs.declared.code.TheConstants.{LONG_CYCLE}
 use Rattle.ledger.specs.Counted.{cycle_lines}
 use Rattle.merging.specs.Parts.{count_lines}
 use Rattle.merging.specs.Texts.{noun}
@@ -8,7 +8,7 @@ use Rattle.merging.proofs.text.counted.Goals as goal
 
 pub returns-in_default-clause-only : goal.returns-in_default-clause-only
 returns-in_default-clause-only c l more short is =
-    let back = cycle_lines l.cycles.items (MAX_EVENTS + 1)
+    let back = cycle_lines l.cycles.items (LONG_CYCLE + 1)
     ++ 102 ∷ first_back (codes "violation") (noun c.args.kind) l.first more in
     let heads = c.counts.ensures.only l.total l.ordered l.unjudged l.overlook back short.total short.ordered
     short.unjudged short.overlook (is ∙ ledger_then c.args.kind l more short.lengths) in
@@ -22,7 +22,7 @@ returns-in_default-clause-only c l more short is =
 pub returns-in_default-2-clause-only : goal.returns-in_default-2-clause-only
 returns-in_default-2-clause-only c l more short is =
     let next = first_back (codes "violation") (noun c.args.kind) l.first more in
-    let back = cycle_lines l.cycles.items (MAX_EVENTS + 1) ++ 102 ∷ next in
+    let back = cycle_lines l.cycles.items (LONG_CYCLE + 1) ++ 102 ∷ next in
     let heads = c.counts.ensures.only l.total l.ordered l.unjudged l.overlook back short.total short.ordered
     short.unjudged short.overlook (is ∙ ledger_then c.args.kind l more short.lengths) in
     let cycles = c.in_ok-cycles.ensures.only l.cycles.items next short.lengths short.cycles heads.1 in
@@ -31,7 +31,7 @@ returns-in_default-2-clause-only c l more short is =
 pub returns-in_default-first-clause-only : goal.returns-in_default-first-clause-only
 returns-in_default-first-clause-only c l more short is =
     let next = first_back (codes "violation") (noun c.args.kind) l.first more in
-    let back = cycle_lines l.cycles.items (MAX_EVENTS + 1) ++ 102 ∷ next in
+    let back = cycle_lines l.cycles.items (LONG_CYCLE + 1) ++ 102 ∷ next in
     let heads = c.counts.ensures.only l.total l.ordered l.unjudged l.overlook back short.total short.ordered
     short.unjudged short.overlook (is ∙ ledger_then c.args.kind l more short.lengths) in
     let cycles = c.in_ok-cycles.ensures.only l.cycles.items next short.lengths short.cycles heads.1 in
@@ -48,7 +48,7 @@ returns-clause-found c =
       cycles.0,
       c.in-Some.ensures.found
           ∙ ap (λ (t : List ℕ). count_lines c.args.kind counts.total counts.ordered counts.unjudged counts.overlook t)
-          (cycles.1 ∙ ap (λ (t : List ℕ). cycle_lines items (MAX_EVENTS + 1) ++ t)
+          (cycles.1 ∙ ap (λ (t : List ℕ). cycle_lines items (LONG_CYCLE + 1) ++ t)
           (c.in-Some-first.ensures.found
           ∙ first_begins (codes "violation") (noun c.args.kind) c.in-Some-first.first new))
           ∙ sym (ledger_then c.args.kind (record {
@@ -65,7 +65,7 @@ returns-clause-found c =
 pub returns-clause-only : goal.returns-clause-only
 returns-clause-only c l more short is =
     let next = first_back (codes "violation") (noun c.args.kind) l.first more in
-    let back = cycle_lines l.cycles.items (MAX_EVENTS + 1) ++ 102 ∷ next in
+    let back = cycle_lines l.cycles.items (LONG_CYCLE + 1) ++ 102 ∷ next in
     let heads = c.counts.ensures.only l.total l.ordered l.unjudged l.overlook back short.total short.ordered
     short.unjudged short.overlook (is ∙ ledger_then c.args.kind l more short.lengths) in
     let cycles = c.in_ok-cycles.ensures.only l.cycles.items next short.lengths short.cycles heads.1 in

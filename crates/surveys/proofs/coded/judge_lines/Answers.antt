@@ -1,6 +1,6 @@
 use Rattle.std.proofs.Common.{List, ℕ, subst, sym}
 use Rattle.surveys.specs.Coded.{AreCodesUpTo}
-use Rattle.surveys.proofs.LineCodes.{all_coded, next_coded, none_coded}
+use Rattle.surveys.proofs.LineCodes.{next_coded, none_coded}
 use Rattle.surveys.proofs.coded.judge_lines.Goals as goal
 
 pub lines-init : goal.lines-init

@@ -1,4 +1,4 @@
-use Rattle.std.proofs.Common.{◌≡◌, ◌∙◌, ◌++◌, ◌∷◌, ℕ, List, ap, drop, length, position, refl, sym, take}
+use Rattle.std.proofs.Common.{◌∙◌, ◌∷◌, ℕ, List, ap, drop, length, position, sym, take}
 use Rattle.std.proofs.Math.Seq.{take-append_seam}
 use Rattle.merging.specs.Digits.{is_space}
 use Rattle.merging.proofs.HeaderTexts.{drop_seam, space_after}
