@@ -1,13 +1,12 @@
-use Rattle.std.proofs.Common.{true, drop, length, arith}
+use Rattle.std.proofs.Common.{drop, length, arith}
 use Rattle.relations.specs.Direct.{IsPair}
-use Rattle.relations.specs.Relation.{sets_of, table_of}
 use Rattle.relations.proofs.Agree.{filled_relation, filled_size, related_is_forced}
 use Rattle.relations.proofs.Readers.{all_forced}
 use Rattle.relations.proofs.relation.Relation.of_events.Goals as goal
 
 pub invariant_of-result : goal.invariant_of-result
 invariant_of-result c =
-    let whole = filled_relation c.args.recording.now (IsPair true c.args.recording.now) c.args.events.items
+    let whole = filled_relation c.args.recording.now (IsPair c.args.recording.now) c.args.events.items
     c.put_pairs.new.rows (drop (length c.put_pairs.new.rows) c.in_ok-rows.rows.items) c.in_ok-rows.rows.len
     c.requires.few (omega (arith, c.in_ok-rows.rows.ok.0, c.in_ok-rows.ensures.size)) c.requires.events
     c.put_pairs.ensures in
@@ -15,15 +14,15 @@ invariant_of-result c =
 
 pub returns-clause-size : goal.returns-clause-size
 returns-clause-size c =
-    let whole = filled_relation c.args.recording.now (IsPair true c.args.recording.now) c.args.events.items
+    let whole = filled_relation c.args.recording.now (IsPair c.args.recording.now) c.args.events.items
     c.put_pairs.new.rows (drop (length c.put_pairs.new.rows) c.in_ok-rows.rows.items) c.in_ok-rows.rows.len
     c.requires.few (omega (arith, c.in_ok-rows.rows.ok.0, c.in_ok-rows.ensures.size)) c.requires.events
     c.put_pairs.ensures in
-    filled_size c.args.recording.now _ (IsPair true c.args.recording.now) c.sound.ensures.well_formed whole.2
+    filled_size c.args.recording.now _ (IsPair c.args.recording.now) c.sound.ensures.well_formed whole.2
 
 pub returns-clause-related : goal.returns-clause-related
 returns-clause-related c =
-    let whole = filled_relation c.args.recording.now (IsPair true c.args.recording.now) c.args.events.items
+    let whole = filled_relation c.args.recording.now (IsPair c.args.recording.now) c.args.events.items
     c.put_pairs.new.rows (drop (length c.put_pairs.new.rows) c.in_ok-rows.rows.items) c.in_ok-rows.rows.len
     c.requires.few (omega (arith, c.in_ok-rows.rows.ok.0, c.in_ok-rows.ensures.size)) c.requires.events
     c.put_pairs.ensures in
@@ -32,7 +31,7 @@ returns-clause-related c =
 
 pub returns-clause-table : goal.returns-clause-table
 returns-clause-table c =
-    let whole = filled_relation c.args.recording.now (IsPair true c.args.recording.now) c.args.events.items
+    let whole = filled_relation c.args.recording.now (IsPair c.args.recording.now) c.args.events.items
     c.put_pairs.new.rows (drop (length c.put_pairs.new.rows) c.in_ok-rows.rows.items) c.in_ok-rows.rows.len
     c.requires.few (omega (arith, c.in_ok-rows.rows.ok.0, c.in_ok-rows.ensures.size)) c.requires.events
     c.put_pairs.ensures in
