@@ -1,10 +1,8 @@
 //! The answer to a text that is checked.
 
-ghost use Rattle.std.specs.Prelude.{◌≡◌, ◌↔◌, ℕ, List, IfOk};
-ghost use Rattle.recording.specs.Execution.{Execution};
+ghost use Rattle.std.specs.Prelude.{◌≡◌, IfOk};
 ghost use Rattle.verification.specs.declared.text_check.TextCheck.TheVariants.{Holds};
 ghost use Rattle.verification.specs.Checked.{IsCheckAnswer};
-ghost use Rattle.verification.specs.Proof.{IsProof};
 
 use crate::text_check::TextCheck;
 use std::alloc::{AllocError, Global};
@@ -13,8 +11,7 @@ use verdicts::{Answer, Outcome};
 /// The answer of `verify`: that the text holds, or that it does not, with the line at fault where there is
 /// one. Fails only if out of memory.
 pub fn text_check_answer(alloc: Global, check: TextCheck) -> Result<Answer, AllocError>
-    ensures { IfOk result (λ answer. (x : Execution) → (text : List ℕ) → (check ≡ Holds) ↔ IsProof x text
-        → IsCheckAnswer x text answer) }
+    ensures { IfOk result (IsCheckAnswer (check ≡ Holds)) }
 {
     match check {
         TextCheck::Holds => Answer::of(alloc, Outcome::Done, "holds\n"),

@@ -3,7 +3,7 @@
 ghost use Rattle.std.specs.Prelude.{◌≡◌, ◌++◌, ◌↔◌, IfOk, IsTrue, codes};
 ghost use Rattle.recording.specs.Tso.{IsTsoOrder};
 ghost use Rattle.verification.specs.declared.text_check.TextCheck.TheVariants.{Holds};
-ghost use Rattle.verification.specs.Proof.{IsProof};
+ghost use Rattle.verification.specs.Proof.{IsLineProof};
 
 use crate::cursor::Cursor;
 use crate::numbers::numbers;
@@ -19,13 +19,13 @@ fn is_tso_order(recording: &Recording, events: &[EventId]) -> bool
     order::check(recording, events)
 }
 
-/// Whether what is left is the order of a verdict that holds. Fails only if out of memory.
+/// Whether what is left is a memory order of TSO. Fails only if out of memory.
 pub(crate) fn check_order(
     alloc: Global,
     recording: &Recording,
     rest: &mut Cursor<'_>,
 ) -> Result<TextCheck, OutOfMemory>
-    ensures { IfOk result (λ f. (f ≡ Holds) ↔ IsProof recording.now (codes "ordered:" ++ rest.old)) }
+    ensures { IfOk result (λ f. (f ≡ Holds) ↔ IsLineProof recording.now (codes "ordered:" ++ rest.old)) }
 {
     recording.sound();
     let Some(events) = numbers(rest, alloc, recording.len())? else {
