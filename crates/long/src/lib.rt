@@ -2,6 +2,7 @@
 #![tactic(auto)]
 
 mod answer;
+mod checking;
 mod cut;
 mod linking;
 mod newest;
@@ -13,4 +14,5 @@ mod waiting;
 mod walking;
 
 pub use answer::{LongAnswer, judge_long, without_labels};
+pub use checking::is_tso_order;
 pub use text::{long_outcome, long_text};
