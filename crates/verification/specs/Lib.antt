@@ -1,3 +1,2 @@
 pub mod Proof
 pub mod Checked
-pub mod CheckedLaws

@@ -9,14 +9,17 @@ use crate::cursor::Cursor;
 use crate::numbers::numbers;
 use crate::text_check::TextCheck;
 use common::{EventId, OutOfMemory};
+use long::is_tso_order;
 use recording::Recording;
+use relations::Places;
 use std::alloc::Global;
 
 /// Whether a list of any numbers is a memory order of TSO.
-fn is_tso_order(recording: &Recording, events: &[EventId]) -> bool
-    ensures { IsTrue result ↔ IsTsoOrder recording.now events.now }
+fn is_ordered(alloc: Global, recording: &Recording, events: &[EventId]) -> Result<bool, OutOfMemory>
+    ensures { IfOk result (λ is. IsTrue is ↔ IsTsoOrder recording.now events.now) }
 {
-    order::check(recording, events)
+    let places = Places::of(alloc, recording)?;
+    is_tso_order(alloc, &places, events)
 }
 
 /// Whether what is left is a memory order of TSO. Fails only if out of memory.
@@ -31,7 +34,8 @@ pub(crate) fn check_order(
     let Some(events) = numbers(rest, alloc, recording.len())? else {
         return Ok(rest.failure());
     };
-    if !is_tso_order(recording, &events) {
+    let ordered = is_ordered(alloc, recording, &events)?;
+    if !ordered {
         return Ok(rest.failure());
     }
     Ok(rest.end())
