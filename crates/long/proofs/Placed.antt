@@ -1,6 +1,6 @@
 -- Lists whose numbers have their places.
-use Rattle.std.proofs.Common.{◌≡◌, ◌<◌, ◌≤◌, ◌+◌, inl, inr, ℕ, zero, suc, List, [], ◌∷◌, get_or, set, length, arith}
-use Rattle.std.proofs.Common.{sym, subst, ap, ◌∙◌, length-set, get_or-set_same, get_or-set_other}
+use Rattle.std.proofs.Common.{◌≡◌, ◌<◌, ◌≤◌, ◌+◌, inl, inr, ℕ, zero, suc, List, [], ◌∷◌, get_or, length, arith}
+use Rattle.std.proofs.Common.{sym, subst, ap, ◌∙◌}
 use Rattle.std.proofs.Common.{replicate}
 use Rattle.std.proofs.lemmas.Bool.{cases_eq}
 use Rattle.std.proofs.lemmas.List.{length-replicate, get_or-replicate}
@@ -51,44 +51,6 @@ placed_all m n v size a =
             ap (λ (k : ℕ). get_or v k 0) (sym (at_place m e low)) ∙ a.placed (place m e) (omega (arith, low, size));
       },
     )
-
--- one number more
-pub placed_more : (m : List ℕ) (n k : ℕ) (v : List ℕ) → ArePlaced m n k v → k < n → get_or m k 0 < n
-    → n ≤ get_or v (get_or m k 0) 0 → ArePlaced m n (k + 1) (set v (get_or m k 0) k)
-placed_more m n k v a room low free =
-    let e : ℕ = get_or m k 0 in
-    let inside : e < length v = omega (arith, low, a.size) in record {
-      size = length-set v e k ∙ a.size;
-      within = λ j under. elim (cases_eq j k) [
-        | inl here ↦ subst (λ (i : ℕ). get_or m i 0 < n) (sym here) low
-        | inr before ↦ a.within j (omega (arith, under, before))
-      ];
-      placed = λ j under. elim (cases_eq j k) [
-        | inl here ↦ subst (λ (i : ℕ). get_or (set v e k) (get_or m i 0) 0 ≡ i) (sym here)
-            (get_or-set_same v e k 0 inside)
-        | inr before ↦
-            let at : get_or v (get_or m j 0) 0 ≡ j = a.placed j (omega (arith, under, before)) in
-            get_or-set_other v e (get_or m j 0) k 0 (λ same. omega (
-              arith,
-              free,
-              at,
-              under,
-              room,
-              ap (λ (i : ℕ). get_or v i 0) same,
-            )) ∙ at
-      ];
-      only = λ f below there. elim (cases_eq e f) [
-        | inl here ↦
-            let at : get_or (set v e k) f 0 ≡ k =
-            ap (λ (i : ℕ). get_or (set v e k) i 0) (sym here) ∙ get_or-set_same v e k 0 inside in
-            (omega (arith, at), ap (λ (i : ℕ). get_or m i 0) at ∙ here)
-        | inr other ↦
-            let still : get_or (set v e k) f 0 ≡ get_or v f 0 =
-            get_or-set_other v e f k 0 (λ same. other (sym same)) in
-            let was = a.only f below (omega (arith, still, there)) in
-            (omega (arith, still, was.0), ap (λ (i : ℕ). get_or m i 0) still ∙ was.1)
-      ];
-    }
 
 -- a number that stands again
 pub placed_again : (m : List ℕ) (n k : ℕ) (v : List ℕ) → ArePlaced m n k v → k < length m → get_or m k 0 < n
