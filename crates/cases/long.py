@@ -5,6 +5,7 @@ import random
 import re
 import subprocess
 import sys
+import tempfile
 
 from explanations import is_explanation
 from reductions import events_of, is_violation, named_by, program_text, restricted
@@ -219,6 +220,21 @@ def judged(program, recording, *words):
     return answer(program, recording, "judge", *words)
 
 
+def verified(program, recording, text):
+    """What the program answers to a text that is to hold of a recording with --long."""
+    with tempfile.NamedTemporaryFile("w", suffix=".verdict") as file:
+        file.write(text)
+        file.flush()
+        return answer(program, recording, "verify", file.name, "--long")
+
+
+def is_verified(program, recording, text):
+    """Whether a right text holds, and the same text with a number that no event has in the place of its last one doesn't."""
+    other = re.sub(r"\d+(\D*)$", rf"{len(events_of(recording))}\1", text)
+    fails = other == text or verified(program, recording, other)[0] == 2
+    return fails and verified(program, recording, text) == (0, "holds\n")
+
+
 def part_of(recording, named):
     """The events of an answer with the source of each, and the recording of these alone, each of which that is none of the answer writes alone."""
     events = events_of(recording)
@@ -260,6 +276,8 @@ def is_judged_twice(program, recording):
     again, other = judged(program, recording)
     if not is_right(recording, status, text) or status != again or not is_told(program, recording, status, text):
         return False
+    if not is_verified(program, recording, text):
+        return False
     if text.startswith("cycle of "):
         return other.startswith("cycle of ") and int(text.split()[2]) >= int(other.split()[2])
     return text == other
@@ -274,9 +292,9 @@ def of_small(program, seed, count):
 
 
 def is_large_right(program, recording):
-    """Whether a large recording is judged right with --long, and is told."""
+    """Whether a large recording is judged right with --long, is told, and its text holds."""
     status, text = judged(program, recording, "--long")
-    return is_right(recording, status, text) and is_told(program, recording, status, text)
+    return is_right(recording, status, text) and is_told(program, recording, status, text) and is_verified(program, recording, text)
 
 
 def of_large(program, seed, events):

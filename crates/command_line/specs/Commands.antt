@@ -46,7 +46,11 @@ commands = (
       (codes "FILE", Place) ∷ (codes "program", Word) ∷ (codes "labels", Word) ∷ (codes "long", Nothing)
           ∷ (codes "words", Nothing) ∷ [],
     )
-    ∷ (codes "verify", (codes "RECORDING", Place) ∷ (codes "VERDICT", Place) ∷ (codes "workers", Number) ∷ (codes "words", Nothing) ∷ [])
+    ∷ (
+      codes "verify",
+      (codes "RECORDING", Place) ∷ (codes "VERDICT", Place) ∷ (codes "long", Nothing) ∷ (codes "workers", Number)
+          ∷ (codes "words", Nothing) ∷ [],
+    )
     ∷ (
       codes "survey",
       (codes "FILE", Place) ∷ (codes "from", Number) ∷ (codes "lines", Number) ∷ (codes "workers", Number)

@@ -173,6 +173,7 @@ pub record AreDrawOptions (o : DrawOptions) (rows : List Row) : Type 0 where
 pub record AreVerifyOptions (o : VerifyOptions) (rows : List Row) : Type 0 where
   pub recording : first_of (codes "RECORDING") rows ≡ Some (string_bytes o.recording)
   pub verdict : first_of (codes "VERDICT") rows ≡ Some (string_bytes o.verdict)
+  pub size : o.size ≡ size_asked rows
   pub workers : IsNumber (codes "workers") WORKERS rows o.workers
 
 -- lines are completed, where this many states are looked at at most for each, or they are not

@@ -321,6 +321,7 @@ pub fn named_options(
         "verify" => Ok(Options::Verify(VerifyOptions {
             recording: given(alloc, matches, "RECORDING")?,
             verdict: given(alloc, matches, "VERDICT")?,
+            size: size_asked(values),
             workers: values.workers,
         })),
         "survey" => Ok(Options::Survey(survey_options(alloc, matches, values)?)),

@@ -210,14 +210,16 @@ pub struct DrawOptions {
     pub all: bool,
 }
 
-/// What `verify` is asked: the names of the recording and of the text of a verdict, and how many workers check its
-/// labels.
+/// What `verify` is asked: the names of the recording and of the text of a verdict, how large the recording may be, and
+/// how many workers check the labels.
 #[derive(Debug, Drop)]
 pub struct VerifyOptions {
     /// The name of the recording.
     pub recording: String,
     /// The name of the text.
     pub verdict: String,
+    /// How large the recording may be; the text is that of a verdict, or of an answer to a long one.
+    pub size: RecordingSize,
     /// How many workers check the labels at most, 1 to `MAX_WORKERS`.
     pub workers: usize,
 }

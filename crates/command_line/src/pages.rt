@@ -279,7 +279,10 @@ const VERIFY: Page = Page {
 A verdict carries its proof. An order holds if it is any order that TSO allows, an overlook
 if the load overlooks the store, and a cycle if each pair has its reason and the labels show
 that no cycle is shorter. The answer is `holds`, or `does not hold: line N`, where line N is
-the first at fault, or `does not hold` where lines are missing.",
+the first at fault, or `does not hold` where lines are missing.
+
+With `--long` a recording may have as much as with `judge --long`. The text is one that this
+prints: a cycle holds if each pair has its reason, whatever its length, and has no labels.",
     statuses: "Exit status:
   0  the verdict holds
   1  an error of the command line, a file or memory, as standard error says

@@ -415,7 +415,7 @@ pub const COMMANDS: &[CommandRow] = &[
     },
     CommandRow {
         name: "verify",
-        arguments: &[RECORDING, VERDICT, WORKERS, WORDS],
+        arguments: &[RECORDING, VERDICT, LONG, WORKERS, WORDS],
     },
     CommandRow {
         name: "survey",

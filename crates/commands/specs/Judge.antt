@@ -3,14 +3,15 @@ use Rattle.std.specs.Prelude.{◌≢◌, ◌⊎◌, ℕ, List, Option, Ok, strin
 use Rattle.command_line.specs.declared.options.FileOptions.{FileOptions}
 use Rattle.command_line.specs.declared.options.JudgeOptions.{JudgeOptions}
 use Rattle.command_line.specs.declared.options.VerifyOptions.{VerifyOptions}
-use Rattle.recording.specs.declared.size.RecordingSize.TheVariants.{Short}
+use Rattle.recording.specs.declared.size.RecordingSize.{RecordingSize}
+use Rattle.recording.specs.declared.size.RecordingSize.TheVariants.{Short, Long}
 use Rattle.recording.specs.Execution.{Execution}
 use Rattle.recorder.specs.Reading.{IsReadingResult}
 use Rattle.verdicts.specs.declared.outcome.Outcome.TheVariants.{Refused}
 use Rattle.verdicts.specs.declared.printed.Answer.{Answer}
 use Rattle.report.specs.Answer.{IsAnswerOf, IsLongAnswerOf}
 use Rattle.verification.specs.Checked.{IsCheckAnswer}
-use Rattle.verification.specs.Proof.{IsProof}
+use Rattle.verification.specs.Proof.{IsLongProof, IsProof}
 use Rattle.inputs.specs.declared.command_stop.CommandStop.{CommandStop}
 use Rattle.inputs.specs.declared.command_error.CommandError.{CommandError}
 use Rattle.inputs.specs.declared.command_error.CommandError.TheVariants.{WriteFailed}
@@ -37,12 +38,17 @@ abbrev pub IsJudgeError : (List ℕ → Option (List ℕ)) → JudgeOptions → 
 IsJudgeError inputs o WriteFailed = ⊤
 IsJudgeError inputs o error = IsInputError inputs (string_bytes o.file) error
 
+-- a text is a proof of a verdict on a short recording, or of an answer to a long one
+abbrev pub IsProofOf : RecordingSize → Execution → List ℕ → Type 0
+IsProofOf Short x text = IsProof x text
+IsProofOf Long x text = IsLongProof x text
+
 -- the answer to the text of the second input, of the recording of the first
 abbrev pub IsVerified : (List ℕ → Option (List ℕ)) → VerifyOptions → Answer → Type 0
-IsVerified inputs o answer = OfRecording inputs (string_bytes o.recording) Short
-    (λ x. OfBytes inputs (string_bytes o.verdict) (λ text. IsCheckAnswer x text answer))
+IsVerified inputs o answer = OfRecording inputs (string_bytes o.recording) o.size
+    (λ x. OfBytes inputs (string_bytes o.verdict) (λ text. IsCheckAnswer (IsProofOf o.size x text) answer))
 
 -- why a text is not checked: the recording is refused or isn't read, or the text isn't
 abbrev pub IsVerifyStop : (List ℕ → Option (List ℕ)) → VerifyOptions → CommandStop → Type 0
-IsVerifyStop inputs o stop = IsRecordingStop inputs (string_bytes o.recording) Short stop
+IsVerifyStop inputs o stop = IsRecordingStop inputs (string_bytes o.recording) o.size stop
     ⊎ IsFailure (IsInputError inputs (string_bytes o.verdict)) stop

@@ -1,19 +1,40 @@
 //! The command `verify`.
 ghost use Rattle.std.specs.Prelude.{◌∷◌, [], IfErr, IfOk, string_bytes};
 ghost use Rattle.inputs.specs.Inputs.{CanRead, ReadsNamed};
-ghost use Rattle.commands.specs.Judge.{IsVerified, IsVerifyStop};
+ghost use Rattle.recording.specs.Recording.{IsRecordingWithin};
+ghost use Rattle.verification.specs.Checked.{IsCheckAnswer};
+ghost use Rattle.commands.specs.Judge.{IsProofOf, IsVerified, IsVerifyStop};
 
 use command_line::VerifyOptions;
+use common::OutOfMemory;
 use devices::Host;
 use inputs::{CommandStop, recording_at, text_at};
-use recording::RecordingSize;
+use recording::{Recording, RecordingSize};
 use report::Answer;
 use std::alloc::Global;
 use std::sync::Wait;
 use std::thread::Threads;
-use verification::{check_text, text_check_answer};
+use verification::{check_answer, long_check_answer};
 
-/// Checks whether the text of one named input is that of a verdict that holds of the recording of another.
+/// The answer to a text, of a recording of the size that is asked for.
+fn checked<R: Threads + Sync>(
+    rt: &R,
+    alloc: Global,
+    options: &VerifyOptions,
+    recording: &Recording,
+    text: &[u8],
+) -> Result<Answer, OutOfMemory>
+    requires { IsRecordingWithin options.now.size recording.now }
+    ensures { IfOk result (IsCheckAnswer (IsProofOf options.now.size recording.now text.now)) }
+{
+    match options.size {
+        RecordingSize::Short => check_answer(rt, alloc, recording, text, options.workers),
+        RecordingSize::Long => long_check_answer(alloc, recording, text),
+    }
+}
+
+/// Checks whether the text of one named input is that of a verdict, or of an answer to a long recording, that holds of the
+/// recording of another.
 pub fn verify_command<R: Threads + Wait + Sync, H: Host>(
     rt: &R,
     alloc: Global,
@@ -26,13 +47,7 @@ pub fn verify_command<R: Threads + Wait + Sync, H: Host>(
     ensures reads { ReadsNamed (string_bytes options.now.recording ∷ string_bytes options.now.verdict ∷ [])
         (H.log host.old) (H.log host.new) result }
 {
-    let recording = recording_at(
-        alloc,
-        host,
-        options.recording.as_str(),
-        RecordingSize::Short,
-    )?;
+    let recording = recording_at(alloc, host, options.recording.as_str(), options.size)?;
     let text = text_at(alloc, host, options.verdict.as_str())?;
-    let check = check_text(rt, alloc, &recording, text.as_slice(), options.workers)?;
-    Ok(text_check_answer(alloc, check)?)
+    Ok(checked(rt, alloc, options, &recording, text.as_slice())?)
 }

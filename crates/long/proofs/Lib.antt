@@ -12,3 +12,5 @@ pub mod Back
 pub mod Sorts
 pub mod Rests
 pub mod Befores
+pub mod Placed
+pub mod Ordered

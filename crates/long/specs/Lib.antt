@@ -9,3 +9,4 @@ pub mod Newest
 pub mod Answer
 pub mod Texts
 pub mod AnswerLaws
+pub mod Positions

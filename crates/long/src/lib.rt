@@ -2,6 +2,7 @@
 #![tactic(auto)]
 
 mod answer;
+mod checking;
 mod cut;
 mod first;
 mod linking;
@@ -14,6 +15,7 @@ mod waiting;
 mod walking;
 
 pub use answer::{LongAnswer, judge_long, without_labels};
+pub use checking::is_tso_order;
 pub use first::{FirstOrder, first_order};
 pub use sorting::Unsorted;
 pub use text::{long_outcome, long_text};

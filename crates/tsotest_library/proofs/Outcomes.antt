@@ -20,6 +20,7 @@ use Rattle.answers.specs.LongReduced.{IsLongReducedAnswer}
 use Rattle.answers.specs.Reduced.{IsReducedAnswer}
 use Rattle.answers.specs.Rendered.{IsLongRenderedAnswer, IsRenderedAnswer}
 use Rattle.verification.specs.Checked.{IsCheckAnswer}
+use Rattle.verification.specs.Proof.{IsProof}
 use Rattle.tsotest_library.specs.Checked.{IsCheckOf}
 use Rattle.tsotest_library.specs.Given.{IsOutcomeOf}
 use Rattle.tsotest_library.specs.Rendered.{IsLongRenderedOf, IsRenderedByText, IsRenderedOf}
@@ -133,13 +134,13 @@ rendered_of_outcome rendering bytes text a
 rendered_of_outcome rendering bytes text a (inr refused) = inr (inr refused.outcome)
 
 -- what is answered to a verdict
-check_outcome : (x : Execution) (text : List ℕ) (a : Answer) → IsCheckAnswer x text a → ComesOut outcome.Done a.outcome
-check_outcome x text a is = one_of outcome.Done a.outcome (inr refl) (λ holds_not fails_not.
+check_outcome : (P : Type 0) (a : Answer) → IsCheckAnswer P a → ComesOut outcome.Done a.outcome
+check_outcome P a is = one_of outcome.Done a.outcome (inr refl) (λ holds_not fails_not.
     fails_not ((is.fails (λ proof. holds_not (is.holds proof).0)).0))
 
 -- of the recording that the bytes are
 pub check_of_outcome : (bytes text : List ℕ) (a : Answer) → IsCheckOf bytes text a → ComesOut outcome.Done a.outcome
-check_of_outcome bytes text a (inl checked) = check_outcome checked.recording text a checked.answered
+check_of_outcome bytes text a (inl checked) = check_outcome (IsProof checked.recording text) a checked.answered
 check_of_outcome bytes text a (inr refused) = inr (inr refused.outcome)
 
 -- how a survey comes out

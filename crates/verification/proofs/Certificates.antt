@@ -15,6 +15,7 @@ use Rattle.verdicts.specs.declared.verdict.Verdict.TheVariants.{Ordered, Overloo
 use Rattle.verdicts.specs.Verified.{Verifies}
 use Rattle.verdicts.specs.VerdictText.{ArePairLines, IsVerdictText, labels_text}
 use Rattle.verification.specs.Proof.{AreRows, Are16Bit, Are32Bit, HasShortLabels, IsProof}
+use Rattle.long.proofs.Lists.{cycle_some}
 use Rattle.verification.proofs.Heads.{one_byte}
 
 -- what a relation of numbers below n leads along is below n
@@ -37,13 +38,8 @@ pub record HasParts (x : Execution) (n : ℕ) (c : List ℕ) (rows : List (List 
   pub lines : ArePairLines x c (length c) pairs
   pub text : rest ≡ decimal (length c) ++ 10 ∷ (pairs ++ (labels_text rows n ++ []))
 
--- a cycle has an event
-cycle_some : (R : ℕ → ℕ → Type 0) (c : List ℕ) → IsCycle R c → 0 < length c
-cycle_some R [] cyclic = absurd cyclic
-cycle_some R (e ∷ es) cyclic = omega arith
-
 -- the numbers of a cycle of numbers below n are short
-cycle_short : (R : ℕ → ℕ → Type 0) (n : ℕ) → n ≤ 512 → ((e f : ℕ) → R e f → (e < n) × (f < n)) → (c : List ℕ)
+pub cycle_short : (R : ℕ → ℕ → Type 0) (n : ℕ) → n ≤ 16777216 → ((e f : ℕ) → R e f → (e < n) × (f < n)) → (c : List ℕ)
     → IsCycle R c → Are32Bit c
 cycle_short R n few within [] cyclic k d low = absurd cyclic
 cycle_short R n few within (e ∷ es) cyclic k d low =
@@ -68,7 +64,7 @@ module _ (x : Execution) (n : ℕ) (size : event_count x ≡ n) (few : n ≤ 512
           other.2,
           (certificates_are_shortest (Forced x) n cycle rows within certified).shortest other.0 other.1,
         );
-        short = cycle_short (Forced x) n few within cycle certified.cyclic;
+        short = cycle_short (Forced x) n (omega (arith, few)) within cycle certified.cyclic;
         rows_are = record {
           size = certified.one_each;
           rows_are = λ v low. record { size = (certified.labellings v low).one_each; short = short v };

@@ -1,39 +1,56 @@
 -- A number of a text, and where its digits end.
-use Rattle.std.proofs.Common.{◌≡◌, ◌<◌, ◌≤◌, ◌^◌, ◌++◌, ◌∷◌, ℕ, List, [], Option, Some, None, Bool, true}
-use Rattle.std.proofs.Common.{false, suc, zero, inl, inr}
-use Rattle.std.proofs.Common.{decimal, length, get_or, take, arith, ap, refl, sym, subst, ◌∙◌}
-use Rattle.std.specs.List.{list_all}
-use Rattle.std.proofs.lemmas.Bool.{cases_lt, and_parts, false≢true}
-use Rattle.std.proofs.lemmas.Fmt.{digits_decimal}
+use Rattle.std.proofs.Common.{◌≡◌, ◌<◌, ◌≤◌, ◌^◌, ◌+◌, ◌%◌, ◌++◌, ◌∷◌, ℕ, List, [], Bool, true, false, inl, inr}
+use Rattle.std.proofs.Common.{Option, None, Some, Result, Ok, Err}
+use Rattle.std.proofs.Common.{decimal, length, get_or, take, arith, ap, sym, ◌∙◌}
+use Rattle.std.proofs.lemmas.Bool.{cases_lt, false≢true}
+use Rattle.std.proofs.lemmas.Bool.Decides.{nat_tests}
+use Rattle.std.proofs.lemmas.Fmt.{decimal_by_steps, parse-decimal}
+use Rattle.std.specs.Str.Parse.{ParsesUnsigned}
 use Rattle.std.proofs.lemmas.List.{get_or_append_left, length-append}
 use Rattle.std.proofs.Math.Seq.{get_or-append_seam, take-append_seam}
-use Rattle.program.specs.declared.number.Number.{Number}
-use Rattle.program.specs.declared.number.Number.TheVariants.{Value, TooLarge}
-use Rattle.program.specs.Numbers.{is_digit, decimal_of, AreValues}
-use Rattle.program.specs.NumberLaws.{model, only, again}
+use Rattle.program.specs.Numbers.{is_digit}
 
--- each of digits alone is one
-digit_at : (ds : List ℕ) → list_all is_digit ds ≡ true → (i : ℕ) → i < length ds
-    → is_digit (get_or ds i 0) ≡ true
-digit_at [] all i low = absurd (omega arith)
-digit_at (d ∷ ds) all zero low = (and_parts (is_digit d) (list_all is_digit ds) all).0
-digit_at (d ∷ ds) all (suc i) low = digit_at ds (and_parts (is_digit d) (list_all is_digit ds) all).1 i (omega arith)
+-- each byte is a digit
+AreDigits : List ℕ → Type 0
+AreDigits ds = (i : ℕ) → i < length ds → is_digit (get_or ds i 0) ≡ true
+
+-- a digit
+one_digit : (n : ℕ) → n < 10 → is_digit (48 + n) ≡ true
+one_digit n low = grind (arith, nat_tests)
+
+-- one digit after others
+more_digits : (ds : List ℕ) (d : ℕ) → AreDigits ds → is_digit d ≡ true → AreDigits (ds ++ d ∷ [])
+unfolding AreDigits
+more_digits ds d all digit i low = elim (cases_lt i (length ds)) [
+  | inl before ↦ ap is_digit (get_or_append_left ds (d ∷ []) 0 i before) ∙ all i before
+  | inr not ↦ let here : i ≡ length ds = omega (arith, not, low, length-append ds (d ∷ [])) in
+      ap (λ (k : ℕ). is_digit (get_or (ds ++ d ∷ []) k 0)) here
+      ∙ ap is_digit (get_or-append_seam ds d [] 0) ∙ digit
+]
+
+-- a number has digits alone
+digits_all : (n : ℕ) → n < 2 ^ 64 → AreDigits (decimal n)
+unfolding AreDigits
+digits_all n small = decimal_by_steps (λ n ds. AreDigits ds)
+    (λ n low. more_digits [] (48 + n) (λ i none. absurd (omega (arith, none))) (one_digit n low))
+    (λ n ds high all. more_digits ds (48 + n % 10) all (one_digit (n % 10) (omega arith))) n small
 
 -- a byte is not both
 not_both : (b : Bool) → b ≡ true → b ≡ false → ⊥
 not_both b is other = false≢true (sym other ∙ is)
 
 -- the digits of a number before another byte end with it
-pub digits_end : (text : List ℕ) (end n b : ℕ) (more : List ℕ) → n < 2 ^ 32 → is_digit b ≡ false
+digits_end : (text : List ℕ) (end n b : ℕ) (more : List ℕ) → n < 2 ^ 64 → is_digit b ≡ false
     → text ≡ decimal n ++ b ∷ more → end ≤ length text
     → ((i : ℕ) → i < end → is_digit (get_or text i 0) ≡ true)
     → (end < length text → is_digit (get_or text end 0) ≡ false) → end ≡ length (decimal n)
+unfolding AreDigits
 digits_end text end n b more small other is within before at =
     elim (cases_lt end (length (decimal n))) [
       | inl short ↦ absurd (not_both (is_digit (get_or text end 0))
           (ap (λ (t : List ℕ). is_digit (get_or t end 0)) is
           ∙ ap is_digit (get_or_append_left (decimal n) (b ∷ more) 0 end short)
-          ∙ digit_at (decimal n) (digits_decimal model n (omega (arith, small))) end short)
+          ∙ digits_all n small end short)
           (at (omega (arith, short, ap length is, length-append (decimal n) (b ∷ more)))))
       | inr long ↦ elim (cases_lt (length (decimal n)) end) [
         | inl past ↦ absurd (not_both (is_digit (get_or text (length (decimal n)) 0))
@@ -44,37 +61,22 @@ digits_end text end n b more small other is within before at =
       ]
     ]
 
--- what is read of the digits of a number is the number
-pub read_number : (o : Option Number) (digits : List ℕ) (n : ℕ) → n < 2 ^ 32 → digits ≡ decimal n
-    → AreValues o (decimal_of digits) → o ≡ Some (Value n)
-read_number o digits n small is read = is_value o (subst (λ (t : List ℕ). AreValues o (decimal_of t)) is read)
-  where
-    is_value : (p : Option Number) → AreValues p (decimal_of (decimal n)) → p ≡ Some (Value n)
-    is_value p h = by_value p (subst (λ (m : Option ℕ). AreValues p m) (again n (omega (arith, small))) h)
-      where
-        by_value : (q : Option Number) → AreValues q (Some n) → q ≡ Some (Value n)
-        by_value None h = absurd h
-        by_value (Some (Value m)) h = ap (λ (k : ℕ). Some (Value k)) h
-        by_value (Some TooLarge) h = absurd (omega (arith, h, small))
-
--- digits that are read as a number are its own
-pub read_digits : (digits : List ℕ) (n : ℕ) → n < 2 ^ 32 → AreValues (Some (Value n)) (decimal_of digits)
-    → digits ≡ decimal n
-read_digits digits n small read = by_value (decimal_of digits) refl read
-  where
-    by_value : (m : Option ℕ) → decimal_of digits ≡ m → AreValues (Some (Value n)) m → digits ≡ decimal n
-    by_value None is h = absurd h
-    by_value (Some m) is h = sym (only n digits small (is ∙ ap Some (sym h)))
-
--- what is read of the digits that a text begins with, where it begins with a number
-pub leads : (o : Option Number) (text : List ℕ) (end n b : ℕ) (more : List ℕ) → n < 2 ^ 32
-    → is_digit b ≡ false → text ≡ decimal n ++ b ∷ more → end ≤ length text
+-- so they are its text
+pub digits_are : (text : List ℕ) (end n b : ℕ) (more : List ℕ) → n < 2 ^ 64 → is_digit b ≡ false
+    → text ≡ decimal n ++ b ∷ more → end ≤ length text
     → ((i : ℕ) → i < end → is_digit (get_or text i 0) ≡ true)
-    → (end < length text → is_digit (get_or text end 0) ≡ false) → AreValues o (decimal_of (take end text))
-    → (o ≡ Some (Value n)) × (end ≡ length (decimal n))
-leads o text end n b more small other is within before at read =
-    let size : end ≡ length (decimal n) = digits_end text end n b more small other is within before at in (
-      read_number o (take end text) n small (ap (λ (t : List ℕ). take end t) is
-          ∙ ap (λ (k : ℕ). take k (decimal n ++ b ∷ more)) size ∙ take-append_seam (decimal n) (b ∷ more)) read,
-      size,
-    )
+    → (end < length text → is_digit (get_or text end 0) ≡ false) → take end text ≡ decimal n
+digits_are text end n b more small other is within before at =
+    let size : end ≡ length (decimal n) = digits_end text end n b more small other is within before at in
+    ap (λ (t : List ℕ). take end t) is
+    ∙ ap (λ (k : ℕ). take k (decimal n ++ b ∷ more)) size ∙ take-append_seam (decimal n) (b ∷ more)
+
+-- what was read
+abbrev pub read_of : {E : Type 0} → Result ℕ E → Option ℕ
+read_of (Ok n) = Some n
+read_of (Err e) = None
+
+-- what is read of the text of a number is the number
+pub reads_number : {E : Type 0} (bs : List ℕ) (n : ℕ) (r : Result ℕ E) → n < 2 ^ 64 → bs ≡ decimal n
+    → ParsesUnsigned 64 10 bs r → read_of r ≡ Some n
+reads_number {E} bs n r small is parses = ap (read_of {E = E}) (parse-decimal 64 n bs r small small is parses)

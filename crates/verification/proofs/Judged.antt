@@ -20,7 +20,9 @@ use Rattle.verdicts.specs.Judgement.{IsCycleVerdict, IsOrderedVerdict, IsOverloo
 use Rattle.verdicts.specs.VerdictText.{IsVerdictText}
 use Rattle.verification.specs.declared.text_check.TextCheck.{TextCheck}
 use Rattle.verification.specs.declared.text_check.TextCheck.TheVariants.{Holds}
-use Rattle.verification.specs.Proof.{Are16Bit, EveryVerdictHolds, IsTextOfVerdict, IsProof}
+use Rattle.long.specs.AnswerLaws.{answer_holds}
+use Rattle.verification.specs.Proof.{Are16Bit, EveryAnswerHolds, EveryVerdictHolds, IsLongProof, IsProof, IsTextOfAnswer}
+use Rattle.verification.specs.Proof.{IsTextOfVerdict}
 
 module _ (x : Execution) (is : IsRecording x) (few : event_count x ≤ MAX_EVENTS) where
   -- forced pairs are pairs of events
@@ -74,3 +76,16 @@ pub judged_holds : (x : Execution) (text : List ℕ) → IsRecording x → event
     → (r : Result TextCheck OutOfMemory) → IfOk r (λ f. (f ≡ Holds) ↔ IsProof x text)
     → IfOk r (λ f. IsTextOfVerdict x text → f ≡ Holds)
 judged_holds x text is few law r exact = IfOk-weaker r _ _ (λ f says judged. says.1 (law x text is few judged)) exact
+
+-- the law of answers to recordings of any length
+pub answer_is_proof : EveryAnswerHolds
+answer_is_proof x text judged = record {
+  answer = judged.answer;
+  printed = judged.printed;
+  witness = answer_holds x judged.answer judged.found;
+}
+
+-- so what is said of a text exactly where it is such a proof is said of that of the answer
+pub answer_check_holds : (x : Execution) (text : List ℕ) → EveryAnswerHolds → (r : Result TextCheck OutOfMemory)
+    → IfOk r (λ f. (f ≡ Holds) ↔ IsLongProof x text) → IfOk r (λ f. IsTextOfAnswer x text → f ≡ Holds)
+answer_check_holds x text law r exact = IfOk-weaker r _ _ (λ f says judged. says.1 (law x text judged)) exact

@@ -6,3 +6,4 @@ pub mod Heads
 pub mod Certificates
 pub mod Judged
 pub mod Findings
+pub mod PairsOnly

@@ -81,7 +81,7 @@ lines_agree x p c (suc n) lines same h = (
 )
 
 -- the line of a pair, with those before it and the text after it
-step_of : (x : Execution) (c : List ℕ) (n : ℕ) (lines : List ℕ) (i : ℕ) → i < n → ArePairLines x c n lines
+pub step_of : (x : Execution) (c : List ℕ) (n : ℕ) (lines : List ℕ) (i : ℕ) → i < n → ArePairLines x c n lines
     → (front line back : List ℕ) × ArePairLines x c i front × IsPairLine x (get_or c i 0) (next_in_cycle c i) line
     × (lines ≡ front ++ (line ++ back))
 step_of x c zero lines i low h = absurd (omega arith)

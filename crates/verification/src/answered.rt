@@ -1,20 +1,24 @@
 //! The answer to a text that is checked.
 
-ghost use Rattle.std.specs.Prelude.{◌≡◌, ◌↔◌, ℕ, List, IfOk};
-ghost use Rattle.recording.specs.Execution.{Execution};
+ghost use Rattle.std.specs.Prelude.{◌≡◌, ◌≤◌, IfOk};
+ghost use Rattle.common.specs.declared.limits.TheConstants.{MAX_EVENTS};
+ghost use Rattle.recording.specs.Execution.{event_count};
 ghost use Rattle.verification.specs.declared.text_check.TextCheck.TheVariants.{Holds};
 ghost use Rattle.verification.specs.Checked.{IsCheckAnswer};
-ghost use Rattle.verification.specs.Proof.{IsProof};
+ghost use Rattle.verification.specs.Proof.{IsLongProof, IsProof};
 
+use crate::text::{check_text, check_text_alone};
 use crate::text_check::TextCheck;
+use crate::unlabelled::check_long_text;
+use common::OutOfMemory;
+use recording::Recording;
 use std::alloc::{AllocError, Global};
+use std::thread::Threads;
 use verdicts::{Answer, Outcome};
 
-/// The answer of `verify`: that the text holds, or that it does not, with the line at fault where there is
-/// one. Fails only if out of memory.
-pub fn text_check_answer(alloc: Global, check: TextCheck) -> Result<Answer, AllocError>
-    ensures { IfOk result (λ answer. (x : Execution) → (text : List ℕ) → (check ≡ Holds) ↔ IsProof x text
-        → IsCheckAnswer x text answer) }
+/// The answer to a text: that it holds, or that it does not, with the line at fault where there is one.
+fn text_check_answer(alloc: Global, check: TextCheck) -> Result<Answer, AllocError>
+    ensures { IfOk result (IsCheckAnswer (check ≡ Holds)) }
 {
     match check {
         TextCheck::Holds => Answer::of(alloc, Outcome::Done, "holds\n"),
@@ -27,4 +31,44 @@ pub fn text_check_answer(alloc: Global, check: TextCheck) -> Result<Answer, Allo
         }
         TextCheck::EndsEarly => Answer::of(alloc, Outcome::Violation, "does not hold\n"),
     }
+}
+
+/// The answer of `verify` to a text, of a recording: what `check_text` finds. Fails only if out of memory.
+pub fn check_answer<R: Threads + Sync>(
+    rt: &R,
+    alloc: Global,
+    recording: &Recording,
+    text: &[u8],
+    workers: usize,
+) -> Result<Answer, OutOfMemory>
+    requires few { event_count recording.now ≤ MAX_EVENTS }
+    ensures { IfOk result (IsCheckAnswer (IsProof recording.now text.now)) }
+{
+    let check = check_text(rt, alloc, recording, text, workers)?;
+    Ok(text_check_answer(alloc, check)?)
+}
+
+/// What `check_answer` answers, without threads: it does not block. Fails only if out of memory.
+pub fn check_answer_alone(
+    alloc: Global,
+    recording: &Recording,
+    text: &[u8],
+) -> Result<Answer, OutOfMemory>
+    requires few { event_count recording.now ≤ MAX_EVENTS }
+    ensures { IfOk result (IsCheckAnswer (IsProof recording.now text.now)) }
+{
+    let check = check_text_alone(alloc, recording, text)?;
+    Ok(text_check_answer(alloc, check)?)
+}
+
+/// The answer of `verify --long` to a text, of a recording: what `check_long_text` finds. Fails only if out of memory.
+pub fn long_check_answer(
+    alloc: Global,
+    recording: &Recording,
+    text: &[u8],
+) -> Result<Answer, OutOfMemory>
+    ensures { IfOk result (IsCheckAnswer (IsLongProof recording.now text.now)) }
+{
+    let check = check_long_text(alloc, recording, text)?;
+    Ok(text_check_answer(alloc, check)?)
 }

@@ -1,18 +1,16 @@
 //! The check of the lines of a cycle and its labels.
 
-ghost use Rattle.std.specs.Prelude.{◌≡◌, ◌≢◌, ◌<◌, ◌≤◌, ◌++◌, ◌∷◌, ◌↔◌, ℕ, List, Some, IfOk, IfSome, IsTrue};
-ghost use Rattle.std.specs.Prelude.{[], MatchOption, codes, decimal, length};
+ghost use Rattle.std.specs.Prelude.{◌≡◌, ◌≢◌, ◌≤◌, ◌++◌, ◌↔◌, ℕ, [], IfOk, IsTrue, codes, length};
 ghost use Rattle.common.specs.declared.limits.TheConstants.{MAX_EVENTS};
 ghost use Rattle.recording.specs.Execution.{event_count};
 ghost use Rattle.relations.specs.Forced.{Forced};
 ghost use Rattle.relations.specs.Relation.{Related};
 ghost use Rattle.labels.specs.Certified.{Certifies};
-ghost use Rattle.verdicts.specs.VerdictText.{ArePairLines};
 ghost use Rattle.verification.specs.declared.text_check.TextCheck.TheVariants.{Holds};
-ghost use Rattle.verification.specs.Proof.{Are32Bit, IsProof, IsReadCycle};
+ghost use Rattle.verification.specs.Proof.{IsProof, IsReadCycle};
 
 use crate::cursor::Cursor;
-use crate::cycle::pairs;
+use crate::cycle::cycle;
 use crate::rows::rows;
 use crate::text_check::TextCheck;
 use common::{EventId, MAX_EVENTS, OutOfMemory};
@@ -21,51 +19,6 @@ use recording::Recording;
 use relations::{Places, Relation, relation_is_forced};
 use std::alloc::Global;
 use std::thread::Threads;
-
-/// Takes the length of a cycle of at most this many events, and the end of its line.
-fn length_line(rest: &mut Cursor<'_>, most: usize) -> Option<usize>
-    requires { most ≤ MAX_EVENTS }
-    ensures found { IfSome result (λ k. (0 < k) × (k ≤ most) × (rest.old ≡ decimal k ++ 10 ∷ rest.new)) }
-    ensures only { (k : ℕ) (more : List ℕ) → 0 < k → k ≤ most → rest.old ≡ decimal k ++ 10 ∷ more
-        → (result ≡ Some k) × (rest.new ≡ more) }
-{
-    let Some(number) = rest.number() else {
-        return None;
-    };
-    let size = number as usize;
-    if size == 0 {
-        return None;
-    }
-    if most < size {
-        return None;
-    }
-    if !rest.take(b"\n") {
-        return None;
-    }
-    Some(size)
-}
-
-/// Takes the length of a cycle of at most this many events, and the lines of its pairs.
-fn cycle(
-    rest: &mut Cursor<'_>,
-    alloc: Global,
-    places: &Places<'_>,
-    most: usize,
-) -> Result<Option<Vec<EventId>>, OutOfMemory>
-    requires { most ≤ MAX_EVENTS }
-    ensures found { IfOk result (λ r. IfSome r (λ c. (lines : List ℕ)
-        × ArePairLines places.now c.items (length c.items) lines
-        × (rest.old ≡ decimal (length c.items) ++ 10 ∷ (lines ++ rest.new)))) }
-    ensures only { IfOk result (λ r. (c lines more : List ℕ) → 0 < length c → length c ≤ most → Are32Bit c
-        → ArePairLines places.now c (length c) lines
-        → rest.old ≡ decimal (length c) ++ 10 ∷ (lines ++ more)
-        → MatchOption r ⊥ (λ v. v.items ≡ c) × (rest.new ≡ more)) }
-{
-    let Some(size) = length_line(rest, most) else {
-        return Ok(None);
-    };
-    pairs(rest, alloc, places, size)
-}
 
 /// Whether the rows certify the cycle, by threads where there is more than one worker.
 fn certifies<R: Threads + Sync>(

@@ -1,12 +1,11 @@
 //! What is left of a text.
 
 ghost use Rattle.std.specs.Prelude.{◌≡◌, ◌<◌, ◌≤◌, ◌^◌, ◌++◌, ◌∷◌, ℕ, List, Some, IfSome, false, true, decimal, length};
-ghost use Rattle.std.specs.Prelude.{slice_index, take};
+ghost use Rattle.std.specs.Prelude.{slice_index};
 ghost use Rattle.program.specs.Numbers.{is_digit};
-ghost use Rattle.program.specs.declared.number.Number.TheVariants.{Value};
 
 use crate::text_check::TextCheck;
-use program::{Number, decimal};
+use itoa::Buffer;
 use std::marker::Model;
 
 /// How many digits a text begins with.
@@ -23,30 +22,37 @@ fn digits(text: &[u8]) -> usize
     text.len()
 }
 
-/// A number that was read, if it has at most 32 bits.
-fn word(number: Option<Number>) -> Option<u32>
-    ensures found { IfSome result (λ n. (number ≡ Some (Value n)) × (n < 2 ^ 32)) }
-    ensures only { (n : ℕ) → number ≡ Some (Value n) → result ≡ Some n }
+/// The number that digits write, if they do.
+fn number_of(digits: &[u8]) -> Option<usize>
+    ensures { (n : ℕ) → n < 2 ^ 64 → digits.now ≡ decimal n → result ≡ Some n }
 {
-    match number {
-        None => None,
-        Some(Number::TooLarge) => None,
-        Some(Number::Value(n)) => Some(n),
+    match std::str::from_utf8(digits) {
+        Ok(text) => match text.parse::<usize>() {
+            Ok(number) => Some(number),
+            Err(_) => None,
+        },
+        Err(_) => None,
     }
 }
 
-/// The number of 32 bits that a text begins with, and how long it is.
-fn leading(text: &[u8]) -> Option<(u32, usize)>
-    ensures within { IfSome result (λ p. p.1 ≤ length text.now) }
-    ensures found { IfSome result (λ p. take p.1 text.now ≡ decimal p.0) }
-    ensures only { (n b : ℕ) (more : List ℕ) → n < 2 ^ 32 → is_digit b ≡ false
-        → text.now ≡ decimal n ++ b ∷ more → result ≡ Some (n, length (decimal n)) }
+/// The number of 64 bits that a text begins with, if it does.
+fn leading(text: &[u8]) -> Option<usize>
+    ensures { (n b : ℕ) (more : List ℕ) → n < 2 ^ 64 → is_digit b ≡ false → text.now ≡ decimal n ++ b ∷ more
+        → result ≡ Some n }
 {
     let end = digits(text);
-    let Some(number) = word(decimal(&text[..end])) else {
+    number_of(&text[..end])
+}
+
+/// A number, if it has at most 32 bits.
+fn word(number: usize) -> Option<u32>
+    ensures found { IfSome result (λ n. n ≡ number) }
+    ensures only { number < 2 ^ 32 → result ≡ Some number }
+{
+    if number > u32::MAX as usize {
         return None;
-    };
-    Some((number, end))
+    }
+    Some(number as u32)
 }
 
 /// What is left of a text. It counts lines for the one at fault, of which no clause says anything.
@@ -67,7 +73,7 @@ impl<'a> Model for Cursor<'a> {
 
 impl<'a> Cursor<'a> {
     ghost use Rattle.std.specs.Prelude.{◌≡◌, ◌≢◌, ◌<◌, ◌^◌, ◌++◌, ◌∷◌, ◌↔◌, [], ℕ, List, Some, IfSome, IsTrue, false};
-    ghost use Rattle.std.specs.Prelude.{decimal};
+    ghost use Rattle.std.specs.Prelude.{decimal, length};
     ghost use Rattle.program.specs.Numbers.{is_digit};
     ghost use Rattle.verification.specs.declared.text_check.TextCheck.TheVariants.{Holds};
 
@@ -115,15 +121,38 @@ impl<'a> Cursor<'a> {
         false
     }
 
+    /// How many bytes are left.
+    pub(crate) fn left(&self) -> usize
+        ensures { result ≡ length self.now }
+    {
+        self.rest.len()
+    }
+
     /// The number of 32 bits that stands next, if one does.
     pub(crate) fn next_number(&self) -> Option<u32>
         ensures { (n b : ℕ) (more : List ℕ) → n < 2 ^ 32 → is_digit b ≡ false
             → self.now ≡ decimal n ++ b ∷ more → result ≡ Some n }
     {
         match leading(self.rest) {
-            Some((number, _)) => Some(number),
+            Some(number) => word(number),
             None => None,
         }
+    }
+
+    /// Takes the number of 64 bits that stands next, if one does.
+    pub(crate) fn count(&mut self) -> Option<usize>
+        ensures found { IfSome result (λ n. self.old ≡ decimal n ++ self.new) }
+        ensures only { (n b : ℕ) (more : List ℕ) → n < 2 ^ 64 → is_digit b ≡ false
+            → self.old ≡ decimal n ++ b ∷ more → (result ≡ Some n) × (self.new ≡ b ∷ more) }
+    {
+        let Some(number) = leading(self.rest) else {
+            return None;
+        };
+        let mut digits = Buffer::new();
+        if !self.take(digits.format(number).as_bytes()) {
+            return None;
+        }
+        Some(number)
     }
 
     /// Takes the number of 32 bits that stands next, if one does.
@@ -132,11 +161,10 @@ impl<'a> Cursor<'a> {
         ensures only { (n b : ℕ) (more : List ℕ) → n < 2 ^ 32 → is_digit b ≡ false
             → self.old ≡ decimal n ++ b ∷ more → (result ≡ Some n) × (self.new ≡ b ∷ more) }
     {
-        let Some((number, end)) = leading(self.rest) else {
-            return None;
-        };
-        self.rest = &self.rest[end..];
-        Some(number)
+        match self.count() {
+            Some(number) => word(number),
+            None => None,
+        }
     }
 
     /// Whether nothing is left, or else the line at fault.

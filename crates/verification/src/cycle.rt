@@ -65,7 +65,7 @@ fn pair(rest: &mut Cursor<'_>, places: &Places<'_>, first: EventId) -> Option<Ev
 
 /// Takes the lines of this many pairs, each of which begins where the one before ends, and the first where the
 /// last ends. Fails only if out of memory.
-pub(crate) fn pairs(
+fn pairs(
     rest: &mut Cursor<'_>,
     alloc: Global,
     places: &Places<'_>,
@@ -98,4 +98,46 @@ pub(crate) fn pairs(
         return Ok(None);
     }
     Ok(Some(path))
+}
+
+/// Takes the length of a cycle of at most this many events, and the end of its line.
+fn length_line(rest: &mut Cursor<'_>, most: usize) -> Option<usize>
+    ensures found { IfSome result (λ k. (0 < k) × (k ≤ most) × (rest.old ≡ decimal k ++ 10 ∷ rest.new)) }
+    ensures only { (k : ℕ) (more : List ℕ) → 0 < k → k ≤ most → rest.old ≡ decimal k ++ 10 ∷ more
+        → (result ≡ Some k) × (rest.new ≡ more) }
+{
+    let Some(size) = rest.count() else {
+        return None;
+    };
+    if size == 0 {
+        return None;
+    }
+    if most < size {
+        return None;
+    }
+    if !rest.take(b"\n") {
+        return None;
+    }
+    Some(size)
+}
+
+/// Takes the length of a cycle of at most this many events, and the lines of its pairs. Fails only if out of memory.
+pub(crate) fn cycle(
+    rest: &mut Cursor<'_>,
+    alloc: Global,
+    places: &Places<'_>,
+    most: usize,
+) -> Result<Option<Vec<EventId>>, OutOfMemory>
+    ensures found { IfOk result (λ r. IfSome r (λ c. (lines : List ℕ)
+        × ArePairLines places.now c.items (length c.items) lines
+        × (rest.old ≡ decimal (length c.items) ++ 10 ∷ (lines ++ rest.new)) × (0 < length c.items))) }
+    ensures only { IfOk result (λ r. (c lines more : List ℕ) → 0 < length c → length c ≤ most → Are32Bit c
+        → ArePairLines places.now c (length c) lines
+        → rest.old ≡ decimal (length c) ++ 10 ∷ (lines ++ more)
+        → MatchOption r ⊥ (λ v. v.items ≡ c) × (rest.new ≡ more)) }
+{
+    let Some(size) = length_line(rest, most) else {
+        return Ok(None);
+    };
+    pairs(rest, alloc, places, size)
 }

@@ -12,8 +12,10 @@ mod overlooked;
 mod rows;
 mod text;
 mod text_check;
+mod unlabelled;
 
-pub use answered::text_check_answer;
-pub use law::every_verdict_holds;
+pub use answered::{check_answer, check_answer_alone, long_check_answer};
+pub use law::{every_answer_holds, every_verdict_holds};
 pub use text::{check_text, check_text_alone};
 pub use text_check::TextCheck;
+pub use unlabelled::check_long_text;

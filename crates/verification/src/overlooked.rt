@@ -2,7 +2,7 @@
 
 ghost use Rattle.std.specs.Prelude.{◌≡◌, ◌<◌, ◌^◌, ◌++◌, ◌∷◌, ◌↔◌, ℕ, List, Some, IfSome, codes, decimal};
 ghost use Rattle.verification.specs.declared.text_check.TextCheck.TheVariants.{Holds};
-ghost use Rattle.verification.specs.Proof.{IsProof};
+ghost use Rattle.verification.specs.Proof.{IsLineProof};
 
 use crate::cursor::Cursor;
 use crate::text_check::TextCheck;
@@ -32,9 +32,9 @@ fn overlook(rest: &mut Cursor<'_>) -> Option<(EventId, EventId)>
     Some((load, store))
 }
 
-/// Whether what is left is the overlook of a verdict that holds.
+/// Whether what is left is a read that overlooks a store.
 pub(crate) fn check_overlook(recording: &Recording, rest: &mut Cursor<'_>) -> TextCheck
-    ensures { (result ≡ Holds) ↔ IsProof recording.now (codes "overlook: load " ++ rest.old) }
+    ensures { (result ≡ Holds) ↔ IsLineProof recording.now (codes "overlook: load " ++ rest.old) }
 {
     recording.sound();
     let Some((load, store)) = overlook(rest) else {

@@ -1,10 +1,10 @@
 //! The check of a text.
 
-ghost use Rattle.std.specs.Prelude.{◌≡◌, ◌≤◌, ◌++◌, ◌↔◌, ℕ, List, IfOk, codes};
+ghost use Rattle.std.specs.Prelude.{◌≡◌, ◌≤◌, ◌↔◌, IfOk};
 ghost use Rattle.common.specs.declared.limits.TheConstants.{MAX_EVENTS};
 ghost use Rattle.recording.specs.Execution.{event_count};
 ghost use Rattle.verification.specs.declared.text_check.TextCheck.TheVariants.{Holds};
-ghost use Rattle.verification.specs.Proof.{IsTextOfVerdict, IsProof};
+ghost use Rattle.verification.specs.Proof.{IsLineProof, IsProof, IsTextOfVerdict};
 
 use crate::certified::{check_cycle, check_cycle_alone};
 use crate::cursor::Cursor;
@@ -17,14 +17,13 @@ use recording::Recording;
 use std::alloc::Global;
 use std::thread::Threads;
 
-/// Whether a text that doesn't begin as a cycle is that of a verdict that holds. Fails only if out of memory.
-fn check_line(
+/// Whether a text is the line of a memory order of TSO, or of a read that overlooks a store. Fails only if out of memory.
+pub(crate) fn check_line(
     alloc: Global,
     recording: &Recording,
     rest: &mut Cursor<'_>,
 ) -> Result<TextCheck, OutOfMemory>
-    requires { (more : List ℕ) → rest.old ≡ codes "cycle of " ++ more → ⊥ }
-    ensures { IfOk result (λ f. (f ≡ Holds) ↔ IsProof recording.now rest.old) }
+    ensures { IfOk result (λ f. (f ≡ Holds) ↔ IsLineProof recording.now rest.old) }
 {
     if rest.take(b"ordered:") {
         return check_order(alloc, recording, rest);

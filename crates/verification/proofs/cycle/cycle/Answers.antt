@@ -2,7 +2,7 @@ use Rattle.std.proofs.Common.{◌≡◌, ◌++◌, ℕ, length, sym, subst}
 use Rattle.std.proofs.lemmas.Result.{IfOk-weaker}
 use Rattle.verdicts.specs.VerdictText.{ArePairLines}
 use Rattle.verification.proofs.Pairs.{some_is}
-use Rattle.verification.proofs.certified.cycle.Goals as goal
+use Rattle.verification.proofs.cycle.cycle.Goals as goal
 
 pub returns-clause-only : goal.returns-clause-only
 returns-clause-only c = IfOk-weaker c.pairs.result _ _

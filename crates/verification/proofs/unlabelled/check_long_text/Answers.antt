@@ -1,0 +1,31 @@
+use Rattle.std.proofs.Common.{◌≡◌, ◌↔◌, List, ℕ, refl, sym, subst, ◌∙◌}
+use Rattle.std.specs.Prelude.{IfOk}
+use Rattle.std.proofs.lemmas.Bool.{false≢true}
+use Rattle.verification.specs.declared.text_check.TextCheck.{TextCheck}
+use Rattle.verification.specs.declared.text_check.TextCheck.TheVariants.{Holds}
+use Rattle.verification.specs.Proof.{IsLongProof}
+use Rattle.verification.proofs.Heads.{line_or_long_proof, line_check_decides}
+use Rattle.verification.proofs.Judged.{answer_check_holds}
+use Rattle.verification.proofs.unlabelled.check_long_text.Goals as goal
+
+pub returns-then-take : goal.returns-then-take
+returns-then-take c =
+    let x = c.args.recording.now in
+    let exact : IfOk c.check_long_cycle.result (λ (f : TextCheck). (f ≡ Holds) ↔ IsLongProof x c.args.text.now) =
+    subst (λ (t : List ℕ). IfOk c.check_long_cycle.result (λ (f : TextCheck). (f ≡ Holds) ↔ IsLongProof x t))
+    (sym (sym c.new-rest.ensures ∙ c.if-take.ensures.found refl)) c.check_long_cycle.ensures in record {
+      exact = exact;
+      judged = answer_check_holds x c.args.text.now c.every_answer_holds.ensures c.check_long_cycle.result exact;
+    }
+
+pub returns : goal.returns
+returns c =
+    let x = c.args.recording.now in
+    let exact : IfOk c.check_line.result (λ (f : TextCheck). (f ≡ Holds) ↔ IsLongProof x c.args.text.now) =
+    line_check_decides x c.args.text.now c.take.new.self (IsLongProof x c.args.text.now)
+    (c.if-take.ensures.kept refl ∙ c.new-rest.ensures) (line_or_long_proof x c.args.text.now (λ more starts.
+    false≢true (c.if-take.ensures.only more (c.new-rest.ensures ∙ starts)).0)) c.check_line.result
+    c.check_line.ensures in record {
+      exact = exact;
+      judged = answer_check_holds x c.args.text.now c.every_answer_holds.ensures c.check_line.result exact;
+    }
