@@ -5,14 +5,13 @@ use Rattle.relations.specs.Forced.{Forced}
 use Rattle.relations.specs.Relation.{Table, Related}
 use Rattle.relations.specs.Cycle.{IsCycle, IsLeastCycle, AreExactRows, IsCertificate}
 use Rattle.relations.specs.CycleLaws.{cycle_into}
-use Rattle.relations.specs.Respects.{Respects, IsLeastOrder}
-use Rattle.relations.specs.Consistency.{HasNoOrder, HasNoOverlook, RespectsForced}
-use Rattle.relations.specs.Laws.{EveryOrderRespects, EveryRespectingIsOrder, OrderedIsAcyclic}
+use Rattle.relations.specs.Consistency.{HasNoOrder}
+use Rattle.relations.specs.Laws.{EveryOrderRespects, OrderedIsAcyclic}
 use Rattle.relations.specs.Laws.{LeastCyclesAgree, ExactRowsAgree, CertificatesAgree}
 use Rattle.recording.specs.Tso.{IsWellFormed}
 use Rattle.labels.specs.Certified.{lists_of}
 use Rattle.labels.specs.declared.certificate.Certificate.{Certificate}
-use Rattle.verdicts.specs.Judgement.{IsCycleVerdict, IsOrderedVerdict}
+use Rattle.verdicts.specs.Judgement.{IsCycleVerdict}
 use Rattle.judge.specs.LeastCertificate.{IsCyclicTable, IsLeastCertificate}
 
 -- where the forced pairs have a cycle, there is no order
@@ -67,24 +66,3 @@ module _ (x : Execution) (t : Table) (of : IsCyclicTable x t) where
         no_overlook = of.no_overlook;
         no_order = no_order x formed respects acyclic c.cycle.items least.shortest.cycle;
       }
-
--- the verdict of the first order of forced pairs from which all follow
-pub ordered_verdict : (x : Execution) (t : Table) → length t ≡ event_count x
-    → ((e f : ℕ) → Related t e f → Forced x e f)
-    → ((m : List ℕ) → Respects (Related t) (event_count x) m → RespectsForced x m)
-    → EveryOrderRespects x → EveryRespectingIsOrder x → OrderedIsAcyclic (Forced x) → IsWellFormed x
-    → HasNoOverlook x → (m : List ℕ) → IsLeastOrder (Related t) (length t) m → IsOrderedVerdict x m
-ordered_verdict x t size forced follow respects enough acyclic formed none m found =
-    let here : IsLeastOrder (Related t) (event_count x) m =
-    subst (λ (n : ℕ). IsLeastOrder (Related t) n m) size found in
-    let all : RespectsForced x m = follow m here.respects in
-    record {
-      order = enough m formed none all;
-      first = λ other tso. here.least other (fewer other (respects other formed tso).0);
-      least = record { respects = all; least = λ other r. here.least other (fewer other r) };
-      no_overlook = none;
-      no_cycle = acyclic (event_count x) m all;
-    }
-  where
-    fewer : (other : List ℕ) → RespectsForced x other → Respects (Related t) (event_count x) other
-    fewer other r = record { total = r.total; related = λ e f h. r.related e f (forced e f h) }
