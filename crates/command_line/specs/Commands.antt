@@ -56,7 +56,8 @@ commands = (
       (codes "FILE", Place) ∷ (codes "from", Number) ∷ (codes "lines", Number) ∷ (codes "workers", Number)
           ∷ (codes "each", Nothing) ∷ (codes "show", Number)
           ∷ (codes "reduce", Nothing) ∷ (codes "complete", Nothing) ∷ (codes "states", Number)
-          ∷ (codes "long", Nothing) ∷ (codes "header", Nothing) ∷ (codes "quiet", Nothing) ∷ (codes "words", Nothing) ∷ [],
+          ∷ (codes "long", Nothing) ∷ (codes "header", Nothing) ∷ (codes "quiet", Nothing)
+          ∷ (codes "words", Nothing) ∷ [],
     )
     ∷ (codes "merge", (codes "FILE", Places) ∷ (codes "partial", Nothing) ∷ (codes "words", Nothing) ∷ [])
     ∷ (

@@ -17,7 +17,8 @@ use Rattle.command_line.specs.declared.options.Misfit.TheVariants.{EachWithShow,
 use Rattle.command_line.specs.declared.options.Misfit.TheVariants.{StatesWithoutComplete}
 use Rattle.command_line.specs.declared.options.Misfit.TheVariants.{HeaderWithComplete, HeaderWithEach, HeaderWithoutLines}
 use Rattle.command_line.specs.declared.options.Misfit.TheVariants.{RunsWithSteps, TwoQuestions, UnseenWithoutObserved, WhyWithoutObserved}
-use Rattle.command_line.specs.declared.options.Misfit.TheVariants.{CompleteWithLong, ProgramWithLong, ReduceWithLong, WorkersWithLong, WorkersWithoutRuns}
+use Rattle.command_line.specs.declared.options.Misfit.TheVariants.{CompleteWithLong, ProgramWithLong, ReduceWithLong}
+use Rattle.command_line.specs.declared.options.Misfit.TheVariants.{WorkersWithLong, WorkersWithoutRuns}
 use Rattle.command_line.specs.declared.options.Misfit.TheVariants.{CycleWithAll, ForbiddenWithoutAll, NoCycle}
 use Rattle.command_line.specs.declared.options.TheConstants.{DEFAULT_FAULT}
 use Rattle.command_line.specs.declared.table.Takes.{Takes}

@@ -35,8 +35,8 @@ use Rattle.commands.specs.Headed.{IsHeaded}
 abbrev pub TellsEach : SurveyOptions → Type 0
 TellsEach o = (o.each ≡ true) × (o.show ≡ None)
 
--- what the lines are: recordings, with --long within the large limits, or with --complete values, of which each may have
--- this many states
+-- what the lines are: recordings, with --long within the large limits, or with --complete values, of which each may
+-- have this many states
 abbrev pub line_kind : Bool → Option ℕ → LineKind
 line_kind long None = if long then LongRecording else Recording
 line_kind long (Some states) = Values states

@@ -5,7 +5,8 @@ use Rattle.recording.specs.declared.fault.RecError.{RecError}
 use Rattle.recording.specs.declared.fault.RecError.TheVariants as refusals
 use Rattle.verdicts.specs.declared.verdict.Verdict.{Verdict}
 use Rattle.verdicts.specs.declared.verdict.Verdict.TheVariants as verdicts
-use Rattle.ledger.specs.declared.code.TheConstants.{UNFINISHED, ORDERED, IMPOSSIBLE, CYCLE, LONG_CYCLE, REFUSED, OVERLOOK, LOAD}
+use Rattle.ledger.specs.declared.code.TheConstants.{UNFINISHED, ORDERED, IMPOSSIBLE, CYCLE, LONG_CYCLE}
+use Rattle.ledger.specs.declared.code.TheConstants.{REFUSED, OVERLOOK, LOAD}
 use Rattle.ledger.specs.Kinds.{is_cycle, is_ordered, is_overlook, is_unfinished, is_unread}
 use Rattle.ledger.specs.declared.finding.Finding.{Finding}
 use Rattle.ledger.specs.declared.finding.Finding.TheVariants.{Ordered, Overlook, Cycle, Impossible, Unfinished, Refused}

@@ -49,10 +49,10 @@ impl Finding {
         }
     }
 
-    /// Its code: 2 of what is unfinished, 3 of an order, 16 of what is impossible, 16 and the length of a cycle, where it
-    /// is at most 512, and else 513, 1,048,576 and 1,024 times the load and the store of an overlook, 65,536 times 1 to 7
-    /// and the event or the address, at most 65,535, of a refusal by N1 to N7. Running out of memory, which is no
-    /// refusal, has 0.
+    /// Its code: 2 of what is unfinished, 3 of an order, 16 of what is impossible, 16 and the length of a cycle, or 529
+    /// where it has more than 512 events, 1,048,576 and 1,024 times the load and the store of an overlook, 65,536 times
+    /// 1 to 7 and the event or the address, at most 65,535, of a refusal by N1 to N7. Running out of memory, which is
+    /// no refusal, has 0.
     pub fn code(&self) -> u64
         ensures { result ≡ finding_code self.now }
     {

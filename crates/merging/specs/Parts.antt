@@ -30,7 +30,8 @@ count_lines kind n o u v more = count_line (all_name kind) n ++ (count_line (cod
 -- the line of a longer cycle than this stands next, or that of the first violation
 abbrev pub IsLater : ℕ → List ℕ → Type 0
 IsLater cycle text = ((more : List ℕ) × (text ≡ 102 ∷ more))
-    ⊎ ((n : ℕ) × (more : List ℕ) × (cycle < n) × (n ≤ LONG_CYCLE) × (text ≡ codes "cycle " ++ (length_name n ++ 58 ∷ more)))
+    ⊎ ((n : ℕ) × (more : List ℕ) × (cycle < n) × (n ≤ LONG_CYCLE)
+    × (text ≡ codes "cycle " ++ (length_name n ++ 58 ∷ more)))
 
 -- a ledger with these counts and these first places has 64 bits for each
 pub record Is64BitLedger (l : Ledger) : Type 0 where

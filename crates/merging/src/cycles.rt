@@ -1,6 +1,7 @@
 //! The lines of the lengths of cycles.
 
-ghost use Rattle.std.specs.Prelude.{◌≡◌, ◌<◌, ◌≤◌, ◌^◌, ◌+◌, ◌++◌, ◌∷◌, ℕ, List, Some, IfOk, IfSome, IsTrue, MatchOption, length};
+ghost use Rattle.std.specs.Prelude.{◌≡◌, ◌<◌, ◌≤◌, ◌^◌, ◌+◌, ◌++◌, ◌∷◌, ℕ, List, Some, IfOk, IfSome, IsTrue};
+ghost use Rattle.std.specs.Prelude.{MatchOption, length};
 ghost use Rattle.ledger.specs.declared.code.TheConstants.{LONG_CYCLE};
 ghost use Rattle.ledger.specs.Counted.{cycle_line, cycle_lines, length_name};
 ghost use Rattle.merging.specs.Parts.{Are64Bit, IsLater};

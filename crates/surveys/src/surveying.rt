@@ -236,9 +236,9 @@ fn count_by_workers<T: Threads + Wait + Sync, R: Source, W: Sink, G: Gate>(
 /// as the survey lasts, or, where each is reported, for a block. The gate hears that a worker begins a recording, that
 /// it is a violation, and that the worker is done, by the numbers of the recordings, from 0. Fails by `ReadFailed`
 /// exactly where a read failed, by `WriteFailed` where a write did, and by `TooLong` only where 2^64 bytes or more were
-/// read. The memory is that of two blocks, or of the longest line, whatever the length. Where lines are recordings within
-/// the small limits, one thing is found in a line, however often and by however many workers it is judged, so any two
-/// surveys of the same bytes count and report the same.
+/// read. The memory is that of two blocks, or of the longest line, whatever the length. Where lines are recordings
+/// within the small limits, one thing is found in a line, however often and by however many workers it is judged, so
+/// any two surveys of the same bytes count and report the same.
 pub fn survey<T: Threads + Wait + Sync, R: Source, W: Sink, G: Gate>(
     rt: &T,
     alloc: Global,

@@ -19,7 +19,8 @@ returns-in-Some-clause-only c counted.LongSurvey more short is =
 pub returns-in-None-clause-only : goal.returns-in-None-clause-only
 returns-in-None-clause-only c (counted.Campaign s) more short is =
     let begun = c.if-take.ensures.kept refl in
-    let read = c.setup.ensures.only s more short (c.if-take-2.ensures.kept refl ∙ (begun ∙ is)) in absurd (none_some s (sym c.in-None.is ∙ read.0))
+    let read = c.setup.ensures.only s more short (c.if-take-2.ensures.kept refl ∙ (begun ∙ is)) in
+    absurd (none_some s (sym c.in-None.is ∙ read.0))
 returns-in-None-clause-only c counted.Survey more short is = absurd (false≢true (c.if-take.ensures.only more is).0)
 returns-in-None-clause-only c counted.LongSurvey more short is =
     let begun = c.if-take.ensures.kept refl in
