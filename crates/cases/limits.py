@@ -40,6 +40,6 @@ def are_said(top, told):
         "python": f"MAX_LONG_CORES, MAX_LONG_EVENTS, MAX_LONG_ADDRESSES = {long[0]}, {long[1]}, {long[2]}\n" in python
         and f"MAX_CORES, MAX_EVENTS, MAX_ADDRESSES, MAX_LABEL_BYTES = {cores}, {events}, {addresses}, " in python,
     }
-    for command in ("judge", "explain", "draw", "reduce", "verify", "survey"):
+    for command in ("judge", "explain", "draw", "reduce", "verify"):
         said[f"{command} --help"] = " ".join(told(command, "--help").split()).count(option) == 1
     return [text for text, is_said in said.items() if not is_said]
