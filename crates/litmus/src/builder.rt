@@ -5,8 +5,9 @@ ghost use Rattle.program.specs.Steps.{write_op};
 
 use common::{Addr, MAX_ADDRESSES, MAX_CORES, MAX_EVENTS, OutOfMemory};
 use indexmap::IndexSet;
-use program::{LineRefusal, LitmusError, Name, Number, Op, Ops, WriteKind, are_below};
+use program::{LineRefusal, LitmusError, Name, Op, Ops, WriteKind, are_below};
 use std::alloc::Global;
+use texts::Number;
 
 /// The names in order of first use, and the operations of each core.
 #[derive(Drop)]
@@ -20,11 +21,11 @@ impl Builder {
     ghost use Rattle.std.specs.Prelude.{length};
     ghost use Rattle.program.specs.Parts.{Body};
     ghost use Rattle.program.specs.declared.refusal.LineRefusal.{LineRefusal};
-    ghost use Rattle.program.specs.declared.line_error.LineError.TheVariants.{OutOfMemory};
+    ghost use Rattle.texts.specs.declared.line_error.LineError.TheVariants.{OutOfMemory};
     ghost use Rattle.program.specs.Steps.{empty, core_step, fence_step, load_step, write_step, op_refusal};
     ghost use Rattle.program.specs.Steps.{at_name, names_with, name_number, with_op, write_op, compare_step};
-    ghost use Rattle.program.specs.Numbers.{IsValue};
-    ghost use Rattle.program.specs.Reading.{AnswersLine, seen_as};
+    ghost use Rattle.texts.specs.Decimals.{IsValue};
+    ghost use Rattle.texts.specs.Reading.{AnswersLine, seen_as};
     ghost use Rattle.program.specs.declared.line.WriteKind.{WriteKind};
     ghost use Rattle.litmus.specs.Built.{state};
     ghost use Rattle.litmus.specs.Random.{with_core};

@@ -5,13 +5,15 @@ ghost use Rattle.std.specs.Prelude.{◌≡◌};
 use crate::builder::Builder;
 use crate::line::{ParsedLine, parsed_line};
 use common::OutOfMemory;
-use program::{LineRefusal, LitmusError, Name, Number, Program};
+use program::{LineRefusal, LitmusError, Name, Program};
 use std::alloc::Global;
+use texts::{Number, ReadLines};
 
 /// The names, the operations, and the initial values up to that of the last `init` line.
 pub struct Reader {
     pub builder: Builder,
     pub init: Vec<u32>,
+    alloc: Global,
 }
 
 impl Drop for Reader {
@@ -19,6 +21,7 @@ impl Drop for Reader {
         let Reader {
             builder: _,
             init: _,
+            alloc: _,
         } = self;
     }
 }
@@ -26,10 +29,10 @@ impl Drop for Reader {
 impl Reader {
     ghost use Rattle.std.specs.Prelude.{◌≡◌, ◌≤◌, ◌++◌, ◌∷◌, [], ℕ, IfOk, OnOk, length};
     ghost use Rattle.litmus.specs.Built.{draft, state};
-    ghost use Rattle.program.specs.Drafts.{drafted_program, filled, init_step, plain, step};
-    ghost use Rattle.program.specs.Numbers.{IsValue};
+    ghost use Rattle.program.specs.Drafts.{drafted_program, filled, init_step, plain};
+    ghost use Rattle.texts.specs.Decimals.{IsValue};
     ghost use Rattle.program.specs.Parts.{IsProgram};
-    ghost use Rattle.program.specs.Reading.{AnswersLine, seen_as};
+    ghost use Rattle.texts.specs.Reading.{AnswersLine, seen_as};
 
     /// These names and operations, without an `init` line.
     pub fn of(alloc: Global, builder: Builder) -> Reader
@@ -38,6 +41,7 @@ impl Reader {
         Reader {
             builder,
             init: Vec::new(alloc),
+            alloc,
         }
     }
 
@@ -75,23 +79,47 @@ impl Reader {
         Ok(())
     }
 
-    /// Takes line `number`. After an error what was read so far is of no use.
-    pub fn take_line(
-        &mut self,
-        alloc: Global,
-        line: &[u8],
-        number: usize,
-    ) -> Result<(), LitmusError>
-        ensures { AnswersLine (seen_as result (λ _. draft self.new)) number
-            (step (draft self.old) line.now) }
+    /// The program of what was read; an address without an `init` line begins with 0. Fails
+    /// only if out of memory.
+    pub fn finish(self) -> Result<Program, OutOfMemory>
+        requires { IsProgram (drafted_program (draft self)) }
+        ensures { IfOk result (λ p. p ≡ drafted_program (draft self)) }
     {
+        let Reader {
+            builder,
+            mut init,
+            alloc: _,
+        } = self;
+        init.resize(builder.names.len(), 0)?;
+        Ok(Program::of_lawful(builder.names, builder.cores, init))
+    }
+}
+
+impl ReadLines for Reader {
+    ghost use Rattle.std.specs.Prelude.{⊤};
+    ghost use Rattle.program.specs.Drafts.{Draft, step};
+    ghost use Rattle.litmus.specs.Built.{draft};
+
+    type Refusal = LineRefusal;
+
+    ghost Subject = { ⊤ };
+
+    ghost subject = { λ _. tt };
+
+    ghost State = { Draft };
+
+    ghost state = { draft };
+
+    ghost step = { λ _. step };
+
+    fn take_line(&mut self, line: &[u8], number: usize) -> Result<(), LitmusError> {
         let said = parsed_line(line);
         if !self.init.is_empty() && !matches!(said, Some(ParsedLine::Init(_, _))) {
             return Err(LitmusError::AtLine(LineRefusal::L1, number));
         }
         match said {
             None => Err(LitmusError::AtLine(LineRefusal::L1, number)),
-            Some(ParsedLine::Core) => self.builder.begin_core(alloc, number),
+            Some(ParsedLine::Core) => self.builder.begin_core(self.alloc, number),
             Some(ParsedLine::Fence) => self.builder.fence(number),
             Some(ParsedLine::Load(name)) => self.builder.load(name, number),
             Some(ParsedLine::Write(write, name, value)) => {
@@ -102,16 +130,5 @@ impl Reader {
             }
             Some(ParsedLine::Init(name, value)) => self.init(name, value, number),
         }
-    }
-
-    /// The program of what was read; an address without an `init` line begins with 0. Fails
-    /// only if out of memory.
-    pub fn finish(self) -> Result<Program, OutOfMemory>
-        requires { IsProgram (drafted_program (draft self)) }
-        ensures { IfOk result (λ p. p ≡ drafted_program (draft self)) }
-    {
-        let Reader { builder, mut init } = self;
-        init.resize(builder.names.len(), 0)?;
-        Ok(Program::of_lawful(builder.names, builder.cores, init))
     }
 }

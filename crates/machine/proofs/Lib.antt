@@ -28,7 +28,6 @@ pub mod Recorded
 pub mod ScriptAgain
 pub mod Removed
 pub mod OneRow
-pub mod TextEnds
 pub mod Inside
 pub mod Answered
 pub mod PlaceLemmas

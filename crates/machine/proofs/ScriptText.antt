@@ -11,8 +11,8 @@ use Rattle.common.specs.declared.limits.TheConstants.{MAX_STEPS}
 use Rattle.program.specs.declared.name.Name.{Name}
 use Rattle.program.specs.Names.{name_eq}
 use Rattle.program.specs.Parts.{Parts}
-use Rattle.program.specs.TestLaws.{cases_of}
-use Rattle.program.specs.ReadingLaws.{kept}
+use Rattle.texts.specs.TestLaws.{cases_of}
+use Rattle.texts.specs.ReadingLaws.{kept}
 use Rattle.machine.specs.declared.script_line.CoreStep.{CoreStep}
 use Rattle.machine.specs.declared.script_line.CoreStep.TheVariants.{Exec, Drain}
 use Rattle.machine.specs.declared.step.Transaction.{Transaction}

@@ -7,7 +7,7 @@ use Rattle.program.specs.Names.{name_eq, name_text}
 use Rattle.program.specs.Spelling.{name_at}
 use Rattle.std.specs.List.{flat_map}
 use Rattle.program.specs.Parts.{Parts}
-use Rattle.program.specs.Reading.{Reading, read_from}
+use Rattle.texts.specs.Reading.{Reading, read_from}
 use Rattle.machine.specs.declared.step.Step.{Step}
 use Rattle.machine.specs.declared.step.Step.TheVariants.{Exec, Drain, GetS, GetM, Put}
 use Rattle.machine.specs.declared.script_refusal.StepRefusal.{StepRefusal}

@@ -3,8 +3,8 @@ use Rattle.std.specs.Prelude.{◌≡◌, ℕ, List, ◌+◌, position, take, dro
 use Rattle.std.specs.Prelude.{option_and_then, if◌then◌else◌}
 use Rattle.program.specs.declared.name.Name.{Name}
 use Rattle.program.specs.Names.{name_of}
-use Rattle.program.specs.Lines.{begins, is_space}
-use Rattle.program.specs.Numbers.{IsValue, decimal_of}
+use Rattle.texts.specs.Words.{begins, is_space}
+use Rattle.texts.specs.Decimals.{IsValue, decimal_of}
 use Rattle.machine.specs.declared.script_line.ParsedLine.{ParsedLine}
 use Rattle.machine.specs.declared.script_line.ParsedLine.TheVariants as parsed
 use Rattle.machine.specs.declared.script_line.CoreStep.{CoreStep}

@@ -1,16 +1,17 @@
 //! From a step script to its steps.
 
-ghost use Rattle.std.specs.Prelude.{◌≡◌, ◌≤◌, ℕ, [], All, IfOk, length};
-ghost use Rattle.program.specs.Numbers.{IsValue};
-ghost use Rattle.program.specs.Reading.{Answers, AnswersLine, read_from, seen_as};
-ghost use Rattle.machine.specs.Script.{core_in, address_in, with_step, line_step, steps_of, IsStepOf};
+ghost use Rattle.std.specs.Prelude.{◌≡◌, ◌≤◌, ℕ, All, IfOk, length};
+ghost use Rattle.texts.specs.Decimals.{IsValue};
+ghost use Rattle.texts.specs.Reading.{Answers, AnswersLine, seen_as};
+ghost use Rattle.machine.specs.Script.{core_in, address_in, with_step, steps_of, IsStepOf};
 
 use crate::script_line::{ParsedLine, own_step, script_line_of, transaction_step};
 use crate::script_refusal::{StepRefusal, StepsError};
 use crate::step::Step;
 use common::{Addr, CoreId, MAX_STEPS};
-use program::{Name, Number, Program};
+use program::{Name, Program};
 use std::alloc::Global;
+use texts::{Number, ReadLines, read_lines};
 
 fn core_in(program: &Program, number: Number) -> Option<CoreId>
     ensures { (c : ℕ) → IsValue number c → result ≡ core_in program.now c }
@@ -42,52 +43,49 @@ fn push_step(steps: &mut Vec<Step>, step: Step, number: usize) -> Result<(), Ste
     Ok(())
 }
 
-// Takes line `number`. After an error the steps so far are of no use.
-fn take_line(
-    steps: &mut Vec<Step>,
-    program: &Program,
-    line: &[u8],
-    number: usize,
-) -> Result<(), StepsError>
-    ensures { AnswersLine (seen_as result (λ _. steps.new.items)) number
-        (line_step program.now steps.old.items line.now) }
-{
-    match script_line_of(line) {
-        None => Err(StepsError::AtLine(StepRefusal::S1, number)),
-        Some(ParsedLine::CoreStep(own, core)) => match core_in(program, core) {
-            None => Err(StepsError::AtLine(StepRefusal::S2, number)),
-            Some(core) => push_step(steps, own_step(own, core), number),
-        },
-        Some(ParsedLine::Transaction(kind, core, name)) => {
-            match (core_in(program, core), address_in(program, name)) {
-                (None, _) => Err(StepsError::AtLine(StepRefusal::S2, number)),
-                (_, None) => Err(StepsError::AtLine(StepRefusal::S3, number)),
-                (Some(core), Some(addr)) => {
-                    push_step(steps, transaction_step(kind, core, addr), number)
+/// The steps of a script so far, and the program that it is for.
+#[derive(Drop)]
+struct Steps<'a> {
+    program: &'a Program,
+    steps: Vec<Step>,
+}
+
+impl<'a> ReadLines for Steps<'a> {
+    ghost use Rattle.std.specs.Prelude.{List};
+    ghost use Rattle.program.specs.Parts.{Parts};
+    ghost use Rattle.machine.specs.declared.step.Step.{Step};
+    ghost use Rattle.machine.specs.Script.{line_step};
+
+    type Refusal = StepRefusal;
+
+    ghost Subject = { Parts };
+
+    ghost subject = { λ s. s.program.now };
+
+    ghost State = { List Step };
+
+    ghost state = { λ s. s.steps.items };
+
+    ghost step = { line_step };
+
+    fn take_line(&mut self, line: &[u8], number: usize) -> Result<(), StepsError> {
+        match script_line_of(line) {
+            None => Err(StepsError::AtLine(StepRefusal::S1, number)),
+            Some(ParsedLine::CoreStep(own, core)) => match core_in(self.program, core) {
+                None => Err(StepsError::AtLine(StepRefusal::S2, number)),
+                Some(core) => push_step(&mut self.steps, own_step(own, core), number),
+            },
+            Some(ParsedLine::Transaction(kind, core, name)) => {
+                match (core_in(self.program, core), address_in(self.program, name)) {
+                    (None, _) => Err(StepsError::AtLine(StepRefusal::S2, number)),
+                    (_, None) => Err(StepsError::AtLine(StepRefusal::S3, number)),
+                    (Some(core), Some(addr)) => {
+                        push_step(&mut self.steps, transaction_step(kind, core, addr), number)
+                    }
                 }
             }
         }
     }
-}
-
-// Takes the lines of a text. After an error the steps so far are of no use.
-fn take_lines(steps: &mut Vec<Step>, program: &Program, text: &[u8]) -> Result<(), StepsError>
-    ensures { Answers (seen_as result (λ _. steps.new.items))
-        (read_from (line_step program.now) StepRefusal.S1 1 steps.old.items [] text.now) }
-{
-    let mut start: usize = 0;
-    let mut number: usize = 1;
-    for (i, b) in text.iter().enumerate() {
-        if *b == b'\n' {
-            take_line(steps, program, &text[start..i], number)?;
-            start = i + 1;
-            number += 1;
-        }
-    }
-    if start < text.len() {
-        return Err(StepsError::AtLine(StepRefusal::S1, number));
-    }
-    Ok(())
 }
 
 /// The steps of a script for the program, or the first line at fault, or that memory ran out.
@@ -104,7 +102,11 @@ pub fn parse_steps(alloc: Global, text: &[u8], program: &Program) -> Result<Vec<
     ensures cores { IfOk result (λ steps. All (IsStepOf program.now) steps.items) }
     ensures few { IfOk result (λ steps. length steps.items ≤ MAX_STEPS) }
 {
-    let mut steps = Vec::new(alloc);
-    take_lines(&mut steps, program, text)?;
+    let mut read = Steps {
+        program,
+        steps: Vec::new(alloc),
+    };
+    read_lines(&mut read, text, StepRefusal::S1)?;
+    let Steps { program: _, steps } = read;
     Ok(steps)
 }

@@ -1,13 +1,14 @@
 //! What one line of a step script says.
 
 ghost use Rattle.std.specs.Prelude.{◌≡◌};
-ghost use Rattle.program.specs.Reading.{SaysOption};
+ghost use Rattle.texts.specs.Reading.{SaysOption};
 ghost use Rattle.machine.specs.ScriptLine.{own_of, transaction_of, script_line_of, own_step, transaction_step};
 ghost use Rattle.machine.specs.ScriptLine.{SaysScriptLine};
 
 use crate::step::{Step, Transaction};
 use common::{Addr, CoreId};
-use program::{Name, Number, decimal, space_in};
+use program::Name;
+use texts::{Number, decimal, space_in};
 
 /// The kind of a step that a core takes alone.
 #[derive(Clone, Copy)]

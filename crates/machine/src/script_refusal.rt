@@ -1,6 +1,6 @@
 //! Why a step script is refused.
 
-use program::LineError;
+use texts::LineError;
 
 /// Why a line of a step script is refused. Where several apply to one line, the first in this order
 /// is answered.

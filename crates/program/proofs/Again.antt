@@ -12,7 +12,7 @@ use Rattle.program.specs.Names.{name_eq, name_of, name_text, no_name}
 use Rattle.program.specs.Lines.{init_line}
 use Rattle.program.specs.Parts.{Body, Parts, IsProgram, IsSmall, body_of, parts_of}
 use Rattle.program.specs.Drafts.{Draft, filled, init_step, plain, step}
-use Rattle.program.specs.Reading.{Reading, read_from}
+use Rattle.texts.specs.Reading.{Reading, read_from}
 use Rattle.program.specs.Text.{drafting, finished, reading}
 use Rattle.program.specs.Spelling.{spelling, init_text, name_at}
 use Rattle.program.specs.NameListLaws.{name_at_place}

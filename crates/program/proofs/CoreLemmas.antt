@@ -16,7 +16,7 @@ use Rattle.program.specs.Steps.{with_op}
 use Rattle.common.specs.declared.limits.TheConstants.{MAX_EVENTS, MAX_ADDRESSES}
 use Rattle.program.specs.Names.{AreLawful, name_eq, no_name}
 use Rattle.program.specs.Spelling.{body_text, op_text, core_text}
-use Rattle.program.specs.TestLaws.{bind_some}
+use Rattle.texts.specs.TestLaws.{bind_some}
 use Rattle.program.specs.NameListLaws.{all_push}
 
 -- the operations of each core

@@ -22,9 +22,9 @@ use Rattle.program.specs.Parts.{Small, Body, op_count, addr_of, use_addr, use_op
 use Rattle.program.specs.Steps.{names_with, name_number, with_op, write_op, op_refusal, core_step, fence_step}
 use Rattle.program.specs.Steps.{load_step, write_step, compare_step}
 use Rattle.program.specs.Drafts.{Draft, plain, said_step, step}
-use Rattle.program.specs.Reading.{read_from}
+use Rattle.texts.specs.Reading.{read_from}
 use Rattle.program.specs.Spelling.{core_text, op_text, op_line, name_at}
-use Rattle.program.specs.TestLaws.{bind_some}
+use Rattle.texts.specs.TestLaws.{bind_some}
 use Rattle.program.proofs.OneLine.{IsNamed, Fits}
 use Rattle.program.proofs.CoreLemmas.{Cores, with_op-is, count-append, ops_grow, cores_grow, use_below}
 use Rattle.program.proofs.Cuts.{cut_at, used_so}

@@ -11,7 +11,7 @@ use Rattle.program.specs.Names.{name_eq, no_name}
 use Rattle.program.specs.Parts.{use_addr}
 use Rattle.program.specs.Steps.{names_with, name_number}
 use Rattle.program.specs.Spelling.{name_at}
-use Rattle.program.specs.TestLaws.{cases_of}
+use Rattle.texts.specs.TestLaws.{cases_of}
 use Rattle.program.specs.NameListLaws.{name_at_place, not_before}
 use Rattle.program.proofs.OneName.{is_new}
 

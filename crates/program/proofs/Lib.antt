@@ -1,4 +1,3 @@
-pub mod Values
 pub mod OnLists
 pub mod ManyNames
 pub mod CoreLemmas

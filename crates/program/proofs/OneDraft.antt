@@ -19,7 +19,7 @@ use Rattle.program.specs.Drafts.{drafted_program, said_step, step, with_body}
 use Rattle.program.specs.Spelling.{body_text, init_text, line_text, name_at, spelling, value_text}
 use Rattle.program.specs.NameListLaws.{all_push}
 use Rattle.program.proofs.OneName.{is_new, is_there}
-use Rattle.program.specs.TestLaws.{same_ok, no_ok}
+use Rattle.texts.specs.TestLaws.{same_ok, no_ok}
 use Rattle.program.proofs.DraftLemmas.{filled_length, filled_text, init_append, zeros_small}
 use Rattle.program.proofs.OneLine.{Reads, line_reads}
 use Rattle.program.proofs.OneStep.{Keeps, keeps_core, keeps_fence, keeps_load, keeps_write, keeps_compare}

@@ -16,12 +16,13 @@ use Rattle.program.specs.declared.line.WriteKind.TheVariants.{Store, Swap, Add}
 use Rattle.program.specs.Names.{is_letter_or_digit, name_of, name_text}
 use Rattle.program.specs.Lines.{Line, core_line, fence_line, load_line, write_line, compare_line, init_line}
 use Rattle.program.specs.Lines.{parsed_line, load_of, write_of, compare_of, compared_of, init_of, valued_of}
-use Rattle.program.specs.Lines.{is_space, write_word, is_text, begins}
-use Rattle.program.specs.Numbers.{decimal_of, is_digit}
+use Rattle.program.specs.Lines.{write_word}
+use Rattle.texts.specs.Words.{is_space, is_text, begins}
+use Rattle.texts.specs.Decimals.{decimal_of, is_digit}
 use Rattle.program.specs.Spelling.{line_text}
-use Rattle.program.specs.TestLaws.{bind_some, cases_of, all_also, first_place}
+use Rattle.texts.specs.TestLaws.{bind_some, cases_of, all_also, first_place}
 use Rattle.program.proofs.OnLists.{map_some, split_at, begins_so}
-use Rattle.program.specs.NumberLaws.{only, again, model}
+use Rattle.texts.specs.DecimalLaws.{only, again, model}
 use Rattle.program.specs.NameLaws.{letters, name_only, name_again, no_space, no_newline}
 
 -- a line whose values fit

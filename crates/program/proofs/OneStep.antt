@@ -22,7 +22,7 @@ use Rattle.program.specs.Steps.{at_name, fence_step, load_step, write_step, comp
 use Rattle.program.specs.Spelling.{body_text, core_text, op_text, line_text, name_at}
 use Rattle.program.specs.NameListLaws.{all_push}
 use Rattle.program.proofs.OneName.{one_name}
-use Rattle.program.specs.TestLaws.{same_ok}
+use Rattle.texts.specs.TestLaws.{same_ok}
 use Rattle.program.proofs.CoreLemmas.{Grown, grown, count-append, use_cores-push}
 
 -- a line that was read

@@ -9,12 +9,12 @@ use Rattle.program.specs.declared.refusal.LineRefusal.TheVariants.{L1}
 use Rattle.program.specs.Lines.{Line}
 use Rattle.program.specs.Parts.{Parts, IsProgram}
 use Rattle.program.specs.Drafts.{Draft, IsDraft, blank, drafted_program, said_step, step}
-use Rattle.program.specs.Reading.{Reading, after_line, read_from}
+use Rattle.texts.specs.Reading.{Reading, after_line, read_from}
 use Rattle.program.specs.Text.{drafting, finished, reading}
 use Rattle.program.specs.Spelling.{spelling, line_text}
-use Rattle.program.specs.TestLaws.{cases_of, same_ok, no_ok}
+use Rattle.texts.specs.TestLaws.{cases_of, same_ok, no_ok}
 use Rattle.program.proofs.OneLine.{IsNamed, Fits, line_again, line_plain}
-use Rattle.program.specs.ReadingLaws.{one_line}
+use Rattle.texts.specs.ReadingLaws.{one_line}
 use Rattle.program.proofs.DraftLemmas.{program_is}
 use Rattle.program.proofs.OneDraft.{draft_text, program_text, step_keeps}
 

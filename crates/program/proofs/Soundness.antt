@@ -5,7 +5,7 @@ use Rattle.std.proofs.lemmas.List.Elements.{All-nil, All-cons}
 use Rattle.program.specs.declared.op.Op.{Op}
 use Rattle.program.specs.declared.op.Op.TheVariants.{St, Ld, Fence, Swap, Add, Cas}
 use Rattle.program.specs.Parts.{IsWithin, addr_of, use_addr, use_ops, use_cores}
-use Rattle.program.specs.TestLaws.{bind_some}
+use Rattle.texts.specs.TestLaws.{bind_some}
 use Rattle.program.proofs.CoreLemmas.{use_below, ops_grow, cores_grow}
 
 -- an address that was used is below the number after it

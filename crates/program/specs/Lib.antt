@@ -1,14 +1,9 @@
-pub mod TestLaws
 pub mod Names
 pub mod NameLaws
-pub mod Numbers
-pub mod NumberLaws
 pub mod Lines
 pub mod Parts
 pub mod Steps
 pub mod Drafts
-pub mod Reading
-pub mod ReadingLaws
 pub mod Text
 pub mod Spelling
 pub mod NameListLaws

@@ -1,12 +1,12 @@
 -- What one line says.
-use Rattle.std.specs.Prelude.{ℕ, List, ◌+◌, ◌==◌, Bool, nat_eq, position, length, take, drop, codes, Option}
+use Rattle.std.specs.Prelude.{ℕ, List, ◌+◌, position, take, drop, codes, Option}
 use Rattle.std.specs.Prelude.{None, Some, option_map, option_and_then, if◌then◌else◌}
-use Rattle.std.specs.Cmp.Lexicographic.{pointwise}
 use Rattle.program.specs.declared.name.Name.{Name}
 use Rattle.program.specs.declared.line.WriteKind.{WriteKind}
 use Rattle.program.specs.declared.line.WriteKind.TheVariants.{Store, Swap, Add}
 use Rattle.program.specs.Names.{name_of}
-use Rattle.program.specs.Numbers.{decimal_of}
+use Rattle.texts.specs.Decimals.{decimal_of}
+use Rattle.texts.specs.Words.{is_space, is_text, begins}
 
 -- a line, with its values not yet tested
 pub data Line : Type 0 where
@@ -16,10 +16,6 @@ pub data Line : Type 0 where
   write_line : WriteKind → Name → ℕ → Line
   compare_line : Name → ℕ → ℕ → Line
   init_line : Name → ℕ → Line
-
--- the byte that parts words
-abbrev pub is_space : ℕ → Bool
-is_space b = b == 32
 
 -- the word of a write, with its space
 abbrev pub write_word : WriteKind → List ℕ
@@ -64,14 +60,6 @@ compare_of rest =
 -- a name alone
 unfoldable pub load_of : List ℕ → Option Line
 load_of rest = option_map load_line (name_of rest)
-
--- a line that is this text
-abbrev pub is_text : List ℕ → List ℕ → Bool
-is_text text line = pointwise nat_eq line text
-
--- a line that begins with this text
-abbrev pub begins : List ℕ → List ℕ → Bool
-begins text line = pointwise nat_eq (take (length text) line) text
 
 -- what a line says, if it is in the grammar
 unfoldable pub parsed_line : List ℕ → Option Line

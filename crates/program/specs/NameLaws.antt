@@ -11,7 +11,7 @@ use Rattle.std.proofs.lemmas.Option.{cond_some}
 use Rattle.program.specs.declared.name.Name.{Name}
 use Rattle.program.specs.Names.{is_letter, is_letter_or_digit, is_name, is_zero, name_eq, name_of, name_text}
 use Rattle.program.specs.Names.{padded}
-use Rattle.program.specs.TestLaws.{all_also, first_after}
+use Rattle.texts.specs.TestLaws.{all_also, first_after}
 
 -- the bytes of a name are letters and digits, and then zeros
 pub letters : (text : List ℕ) (name : Name) → name_of text ≡ Some name →

@@ -2,9 +2,9 @@
 use Rattle.std.specs.Prelude.{◌≡◌, ℕ, List, [], Result, Ok, Err, ⊤}
 use Rattle.program.specs.declared.refusal.LineRefusal.{LineRefusal}
 use Rattle.program.specs.declared.refusal.LineRefusal.TheVariants.{L1}
-use Rattle.program.specs.declared.line_error.LineError.{LineError}
-use Rattle.program.specs.declared.line_error.LineError.TheVariants.{AtLine, OutOfMemory}
-use Rattle.program.specs.Reading.{Reading, read_from}
+use Rattle.texts.specs.declared.line_error.LineError.{LineError}
+use Rattle.texts.specs.declared.line_error.LineError.TheVariants.{AtLine, OutOfMemory}
+use Rattle.texts.specs.Reading.{Reading, read_from}
 use Rattle.program.specs.Parts.{Parts}
 use Rattle.program.specs.Drafts.{Draft, blank, drafted_program, step}
 

@@ -3,10 +3,8 @@
 
 mod lawful;
 mod line;
-mod line_error;
 mod name;
 mod naming;
-mod number;
 mod one_text;
 mod op;
 mod program;
@@ -16,11 +14,9 @@ mod shape;
 mod shape_error;
 
 pub use lawful::are_below;
-pub use line::{WriteKind, space_in};
-pub use line_error::LineError;
+pub use line::WriteKind;
 pub use name::{Name, name_at};
 pub use naming::{address_name, address_names};
-pub use number::{Number, decimal};
 pub use one_text::has_one_text;
 pub use op::{Op, Ops};
 pub use program::Program;

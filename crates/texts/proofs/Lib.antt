@@ -1,2 +1,5 @@
 pub mod ShortNumbers
 pub mod NumberTexts
+pub mod Formats
+pub mod Values
+pub mod DigitLemmas

@@ -2,3 +2,9 @@ pub mod Numbers
 pub mod NumberTexts
 pub mod Below
 pub mod TextLaws
+pub mod TestLaws
+pub mod Decimals
+pub mod DecimalLaws
+pub mod Words
+pub mod Reading
+pub mod ReadingLaws

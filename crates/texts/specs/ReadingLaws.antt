@@ -6,8 +6,8 @@ use Rattle.std.specs.List.{list_all}
 use Rattle.std.proofs.lemmas.List.{take_more, get_or-drop, append-nil, append_assoc}
 use Rattle.std.proofs.lemmas.Bool.{and_parts}
 use Rattle.std.proofs.lemmas.Bool.Decides.{eqb_tells}
-use Rattle.program.specs.Reading.{Reading, read_from, after_line}
-use Rattle.program.specs.TestLaws.{not_true, cases_of, same_ok}
+use Rattle.texts.specs.Reading.{Reading, read_from, after_line}
+use Rattle.texts.specs.TestLaws.{not_true, cases_of, same_ok}
 
 -- a range that is one longer
 range_more : (xs : List ℕ) (start i : ℕ) → start ≤ i → i < length xs →

@@ -11,7 +11,7 @@ use Rattle.std.proofs.lemmas.Str.Parse.{IsDigitsTest, FoldsDigits, IsNumeralMode
 use Rattle.std.proofs.lemmas.Str.Parse.{digits_value_short}
 use Rattle.std.proofs.lemmas.Fmt.{decimal-digits_value, digits_value-decimal, digits_decimal}
 use Rattle.std.proofs.lemmas.Fmt.{length-decimal-le, decimal_is_IsNumeral}
-use Rattle.program.specs.Numbers.{is_digit, is_decimal, value_from, decimal_of}
+use Rattle.texts.specs.Decimals.{is_digit, is_decimal, value_from, decimal_of}
 
 -- a text of digits alone
 abbrev pub AllDigitBytes : List ℕ → Type 0

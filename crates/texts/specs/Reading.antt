@@ -1,8 +1,8 @@
 -- What it is to read a text line by line, over the step that one line takes.
 use Rattle.std.specs.Prelude.{◌≡◌, ℕ, List, [], ◌∷◌, ◌++◌, ◌+◌, ◌==◌, length, Option, None, Some, Result, Ok}
 use Rattle.std.specs.Prelude.{Err, if◌then◌else◌, ⊤}
-use Rattle.program.specs.declared.line_error.LineError.{LineError}
-use Rattle.program.specs.declared.line_error.LineError.TheVariants.{AtLine, OutOfMemory}
+use Rattle.texts.specs.declared.line_error.LineError.{LineError}
+use Rattle.texts.specs.declared.line_error.LineError.TheVariants.{AtLine, OutOfMemory}
 
 -- the state after a whole text, or the fault of its first line at fault, with that line's number
 abbrev pub Reading : Type 0 → Type 0 → Type 0

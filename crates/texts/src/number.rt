@@ -2,7 +2,7 @@
 
 ghost use Rattle.std.specs.Prelude.{◌≡◌};
 ghost use Rattle.std.specs.List.{list_all};
-ghost use Rattle.program.specs.Numbers.{is_digit, is_decimal, value_from, decimal_of, IsValue, AreValues};
+ghost use Rattle.texts.specs.Decimals.{is_digit, is_decimal, value_from, decimal_of, IsValue, AreValues};
 
 /// A number that was read.
 #[derive(Clone, Copy, Debug, PartialEq, Eq)]
@@ -15,7 +15,7 @@ pub enum Number {
 
 /// The number that the text is: `0`, or digits of which the first is not `0`. None where it is no
 /// number; a number may have any count of digits.
-#[tactic(auto, unfolding(crate::specs::Numbers::decimal_of))]
+#[tactic(auto, unfolding(crate::specs::Decimals::decimal_of))]
 pub fn decimal(text: &[u8]) -> Option<Number>
     ensures { AreValues result (decimal_of text.now) }
 {

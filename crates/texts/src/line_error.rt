@@ -14,7 +14,7 @@ pub enum LineError<F> {
 
 impl<F> From<OutOfMemory> for LineError<F> {
     ghost use Rattle.std.specs.Prelude.{◌≡◌};
-    ghost use Rattle.program.specs.declared.line_error.LineError.TheVariants.{OutOfMemory};
+    ghost use Rattle.texts.specs.declared.line_error.LineError.TheVariants.{OutOfMemory};
 
     ghost from_gives = { λ _ e. e ≡ OutOfMemory };
 
@@ -25,7 +25,7 @@ impl<F> From<OutOfMemory> for LineError<F> {
 
 impl<F, T: Drop> From<AllocFailed<T>> for LineError<F> {
     ghost use Rattle.std.specs.Prelude.{◌≡◌};
-    ghost use Rattle.program.specs.declared.line_error.LineError.TheVariants.{OutOfMemory};
+    ghost use Rattle.texts.specs.declared.line_error.LineError.TheVariants.{OutOfMemory};
 
     ghost from_gives = { λ _ e. e ≡ OutOfMemory };
 

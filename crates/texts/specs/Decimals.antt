@@ -2,8 +2,8 @@
 use Rattle.std.specs.Prelude.{◌≡◌, ◌≤◌, ◌^◌, ℕ, List, [], ◌∷◌, ◌+◌, ◌*◌, ◌-◌, ◌==◌, ◌&&◌, ◌||◌, Bool, not}
 use Rattle.std.specs.Prelude.{nat_lt, nat_le, slice_index, length, Option, None, Some, if◌then◌else◌, ⊤}
 use Rattle.std.specs.List.{list_all}
-use Rattle.program.specs.declared.number.Number.{Number}
-use Rattle.program.specs.declared.number.Number.TheVariants.{Value, TooLarge}
+use Rattle.texts.specs.declared.number.Number.{Number}
+use Rattle.texts.specs.declared.number.Number.TheVariants.{Value, TooLarge}
 
 -- a byte from 0 to 9
 abbrev pub is_digit : ℕ → Bool

@@ -1,7 +1,7 @@
 -- Reading one digit more.
 use Rattle.std.proofs.Common.{◌≡◌, ℕ, ◌+◌, ◌-◌, ◌*◌, ◌^◌, ◌<◌, ◌≤◌, List, [], ◌∷◌, length, drop, get_or, refl}
 use Rattle.std.proofs.Common.{arith, add-one, drop-cons}
-use Rattle.program.specs.Numbers.{value_from}
+use Rattle.texts.specs.Decimals.{value_from}
 
 -- digits never make a number smaller
 pub value_grows : (n : ℕ) (text : List ℕ) → n ≤ value_from n text

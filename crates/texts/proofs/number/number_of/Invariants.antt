@@ -1,6 +1,6 @@
 use Rattle.std.proofs.Common.{◌≡◌, ◌<◌, ◌^◌, drop}
-use Rattle.program.specs.Numbers.{value_from}
-use Rattle.program.proofs.number.number_of.Given as goal
+use Rattle.texts.specs.Decimals.{value_from}
+use Rattle.texts.proofs.number.number_of.Given as goal
 
 abbrev pub invariant-loop-b : goal.invariant-loop-b
 invariant-loop-b l = record {
