@@ -1,4 +1,3 @@
-pub mod Ends
 pub mod LineTexts
 pub mod CycleTexts
 pub mod WholeTexts

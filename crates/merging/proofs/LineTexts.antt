@@ -1,10 +1,11 @@
 -- Lines, and what stands after them.
-use Rattle.std.proofs.Common.{◌≡◌, ◌∙◌, ◌⊎◌, ◌<◌, ◌≤◌, ◌^◌, ◌++◌, ◌∷◌, ℕ, List, Option, None, Some, ap, append_assoc}
+use Rattle.std.proofs.Common.{◌≡◌, ◌∙◌, ◌<◌, ◌≤◌, ◌++◌, ◌∷◌, ℕ, List, Option, Some, ap, append_assoc, get_or, sym}
 use Rattle.std.proofs.Common.{codes, decimal, arith, inl, inr, le-ltb, lt-ltb, nat_eq, nat_lt, ne_eqb, false, refl, true}
-use Rattle.std.proofs.lemmas.Bool.{cases_lt}
+use Rattle.std.proofs.lemmas.Bool.{cases_lt, false≢true}
 use Rattle.ledger.specs.declared.code.TheConstants.{LONG_CYCLE}
 use Rattle.ledger.specs.Counted.{cycle_line, first_line, length_name, place_name}
-use Rattle.merging.specs.Digits.{IsNoDigit}
+use Rattle.texts.specs.Decimals.{is_digit}
+use Rattle.texts.proofs.DigitLemmas.{first_digit}
 
 -- a line of a length of cycles
 pub cycle_then : (k n : ℕ) (more : List ℕ) → 0 < n
@@ -32,14 +33,23 @@ pub length_over : (n : ℕ) → LONG_CYCLE ≤ n → length_name n ≡ codes "ov
 length_over n high =
     let test : nat_lt n LONG_CYCLE ≡ false = le-ltb n LONG_CYCLE high in rw test refl
 
--- a text that begins with a length of cycles begins with its number, or with no digit
-pub length_begins : (n : ℕ) (text more : List ℕ) (r : Option ℕ) → n ≤ LONG_CYCLE → text ≡ length_name n ++ 58 ∷ more
-    → ((k b : ℕ) (back : List ℕ) → k < 2 ^ 64 → IsNoDigit b → text ≡ decimal k ++ b ∷ back → r ≡ Some k)
-    → ((b : ℕ) (back : List ℕ) → IsNoDigit b → text ≡ b ∷ back → r ≡ None)
-    → (r ≡ Some n) ⊎ ((n ≡ LONG_CYCLE) × (r ≡ None) × (text ≡ codes "over 512" ++ 58 ∷ more))
-length_begins n text more r within is found none = elim (cases_lt n LONG_CYCLE) [
-  | inl low ↦ inl (found n 58 more (omega (arith, low)) refl
-      (is ∙ ap (λ (t : List ℕ). t ++ 58 ∷ more) (length_below n low)))
-  | inr high ↦ let over = is ∙ ap (λ (t : List ℕ). t ++ 58 ∷ more) (length_over n high) in
-      inr (omega (arith, within, high), none 111 (codes "ver 512" ++ 58 ∷ more) refl over, over)
+-- a text that begins with a length of cycles begins with what stands for all longer ones where it is that
+pub over_is : (n : ℕ) (text more back : List ℕ) → n ≤ LONG_CYCLE → text ≡ length_name n ++ 58 ∷ more
+    → text ≡ codes "over 512" ++ back → LONG_CYCLE ≡ n
+over_is n text more back within is over = elim (cases_lt n LONG_CYCLE) [
+  | inl low ↦
+      let first = first_digit n (58 ∷ more) (omega (arith, low)) in
+      let number : text ≡ first.0 ∷ first.1 =
+      is ∙ ap (λ (t : List ℕ). t ++ 58 ∷ more) (length_below n low) ∙ first.3 in
+      let byte : 111 ≡ first.0 = ap (λ (t : List ℕ). get_or t 0 0) (sym over ∙ number) in
+      absurd (false≢true (ap is_digit byte ∙ first.2))
+  | inr high ↦ omega (arith, within, high)
+]
+
+-- else with its number
+pub number_is : (n : ℕ) (text more : List ℕ) → n ≤ LONG_CYCLE → text ≡ length_name n ++ 58 ∷ more
+    → ((back : List ℕ) → text ≡ codes "over 512" ++ back → ⊥) → (n < LONG_CYCLE) × (text ≡ decimal n ++ 58 ∷ more)
+number_is n text more within is never = elim (cases_lt n LONG_CYCLE) [
+  | inl low ↦ (low, is ∙ ap (λ (t : List ℕ). t ++ 58 ∷ more) (length_below n low))
+  | inr high ↦ absurd (never (58 ∷ more) (is ∙ ap (λ (t : List ℕ). t ++ 58 ∷ more) (length_over n high)))
 ]

@@ -1,6 +1,6 @@
 -- Digits and spaces of a text.
 use Rattle.std.specs.Prelude.{◌≡◌, ◌==◌, ℕ, Bool, false}
-use Rattle.program.specs.Numbers.{is_digit}
+use Rattle.texts.specs.Decimals.{is_digit}
 
 -- a byte that is not from 0 to 9
 abbrev pub IsNoDigit : ℕ → Type 0

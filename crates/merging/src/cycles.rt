@@ -6,10 +6,11 @@ ghost use Rattle.ledger.specs.declared.code.TheConstants.{LONG_CYCLE};
 ghost use Rattle.ledger.specs.Counted.{cycle_line, cycle_lines, length_name};
 ghost use Rattle.merging.specs.Parts.{Are64Bit, IsLater};
 
-use crate::cursor::Cursor;
+use crate::words::{next_cycle, number};
 use common::OutOfMemory;
 use ledger::LONG_CYCLE;
 use std::alloc::Global;
+use texts::Cursor;
 
 /// Takes this length of cycles, or what stands for all longer ones, and says whether it stands next.
 fn take_length(rest: &mut Cursor<'_>, cycle: usize) -> bool
@@ -18,7 +19,7 @@ fn take_length(rest: &mut Cursor<'_>, cycle: usize) -> bool
         → IsTrue result × (rest.new ≡ 58 ∷ more) }
 {
     if cycle < LONG_CYCLE {
-        return rest.number() == Some(cycle);
+        return number(rest) == Some(cycle);
     }
     rest.take(b"over 512")
 }
@@ -38,7 +39,7 @@ fn counted(rest: &mut Cursor<'_>, cycle: usize) -> Option<usize>
     if !rest.take(b": ") {
         return None;
     }
-    let Some(count) = rest.number() else {
+    let Some(count) = number(rest) else {
         return None;
     };
     if count == 0 || !rest.take(b"\n") {
@@ -54,7 +55,7 @@ fn cycle_count(rest: &mut Cursor<'_>, cycle: usize) -> Option<usize>
         → rest.old ≡ cycle_line cycle n ++ more → (result ≡ Some n) × (rest.new ≡ more) }
     ensures later { IsLater cycle rest.old → (result ≡ Some 0) × (rest.new ≡ rest.old) }
 {
-    if rest.next_cycle() != Some(cycle) {
+    if next_cycle(rest) != Some(cycle) {
         return Some(0);
     }
     counted(rest, cycle)

@@ -1,17 +1,17 @@
 //! Headers.
 
-ghost use Rattle.std.specs.Prelude.{◌≡◌, ◌<◌, ◌^◌, ◌++◌, ◌∷◌, ◌↔◌, ℕ, List, Some, IfSome, IsTrue};
+ghost use Rattle.std.specs.Prelude.{◌≡◌, ◌<◌, ◌≤◌, ◌^◌, ◌++◌, ◌∷◌, ◌↔◌, ℕ, List, Some, IfSome, IsTrue};
 ghost use Rattle.headers.specs.Faults.{fault_name};
 ghost use Rattle.headers.specs.Headers.{IsHeader, IsSetup, CanBegin, campaign_words, counted_words, header_line};
 ghost use Rattle.headers.specs.Headers.{option_words};
 ghost use Rattle.merging.specs.Digits.{IsNoDigit};
 ghost use Rattle.merging.specs.Parts.{Is64BitSetup, Is64BitCounted, machine_then, sizes_then};
 
-use crate::cursor::Cursor;
+use crate::words::{number, word};
 use common::{MAX_ADDRESSES, MAX_CAPACITY, MAX_CORES, MAX_EVENTS, MAX_STEPS};
 use headers::{Counted, Header, Setup, count_name, fault_named};
 use machine::Fault;
-use program::is_outside;
+use texts::Cursor;
 
 /// How many cores, operations of each, and addresses.
 type Sizes = (usize, usize, usize);
@@ -25,7 +25,7 @@ fn option(rest: &mut Cursor<'_>, name: &[u8]) -> Option<usize>
     if !rest.take(name) {
         return None;
     }
-    rest.number()
+    number(rest)
 }
 
 /// Takes the sizes of programs.
@@ -52,7 +52,7 @@ fn fault(rest: &mut Cursor<'_>) -> Option<Fault>
     ensures only { (f : Fault) (more : List ℕ) → rest.old ≡ fault_name f ++ 32 ∷ more
         → (result ≡ Some f) × (rest.new ≡ 32 ∷ more) }
 {
-    let Some(name) = rest.word() else {
+    let Some(name) = word(rest) else {
         return None;
     };
     fault_named(name)
@@ -123,16 +123,23 @@ fn counted(rest: &mut Cursor<'_>) -> Option<Counted>
     }
 }
 
+/// Whether a number is from 1 to a limit.
+fn is_within(limit: usize, number: usize) -> bool
+    ensures { IsTrue result ↔ ((0 < number) × (number ≤ limit)) }
+{
+    0 < number && number <= limit
+}
+
 /// Whether what campaigns have in common is within its limits.
 fn is_setup(setup: &Setup) -> bool
     ensures { IsTrue result ↔ IsSetup setup.now }
 {
-    !is_outside(MAX_CORES, setup.cores)
-        && !is_outside(MAX_EVENTS, setup.ops)
-        && !is_outside(MAX_ADDRESSES, setup.addresses)
+    is_within(MAX_CORES, setup.cores)
+        && is_within(MAX_EVENTS, setup.ops)
+        && is_within(MAX_ADDRESSES, setup.addresses)
         && setup.cores * setup.ops <= MAX_EVENTS
-        && !is_outside(MAX_STEPS, setup.attempts)
-        && !is_outside(MAX_CAPACITY, setup.buffer)
+        && is_within(MAX_STEPS, setup.attempts)
+        && is_within(MAX_CAPACITY, setup.buffer)
 }
 
 /// Whether there can be such a first seed or line.
@@ -155,7 +162,7 @@ pub(crate) fn header(rest: &mut Cursor<'_>) -> Option<Header>
     let Some(counted) = counted(rest) else {
         return None;
     };
-    let Some(first) = rest.number() else {
+    let Some(first) = number(rest) else {
         return None;
     };
     let Some(count) = option(rest, count_name(&counted)) else {

@@ -1,6 +1,6 @@
 //! Whose counts a text has.
 
-use crate::cursor::Cursor;
+use texts::Cursor;
 
 /// Whose counts a text has.
 #[derive(Clone, Copy, Debug, Drop, PartialEq, Eq)]

@@ -1,7 +1,6 @@
 //! Texts of campaigns and of surveys, read and added up to one.
 #![tactic(auto)]
 
-mod cursor;
 mod cycles;
 mod error;
 mod header;
@@ -11,6 +10,7 @@ mod lines;
 mod merged;
 mod sections;
 mod text;
+mod words;
 
 pub use error::{MergeError, MergeRefusal, Seam};
 pub use joined::{Gaps, Joined, join};

@@ -4,8 +4,9 @@ ghost use Rattle.std.specs.Prelude.{◌≡◌, ◌<◌, ◌^◌, ◌++◌, ◌�
 ghost use Rattle.ledger.specs.Counted.{count_line, first_line, place_name};
 ghost use Rattle.merging.specs.Texts.{noun};
 
-use crate::cursor::Cursor;
 use crate::kind::Kind;
+use crate::words::number;
+use texts::Cursor;
 
 /// Takes the line of how many there are of a kind.
 pub(crate) fn count(rest: &mut Cursor<'_>, name: &[u8]) -> Option<usize>
@@ -19,7 +20,7 @@ pub(crate) fn count(rest: &mut Cursor<'_>, name: &[u8]) -> Option<usize>
     if !rest.take(b" ") {
         return None;
     }
-    let Some(number) = rest.number() else {
+    let Some(number) = number(rest) else {
         return None;
     };
     if !rest.take(b"\n") {
@@ -40,7 +41,7 @@ fn place_or_none(rest: &mut Cursor<'_>, kind: Kind) -> Option<Option<usize>>
     if !rest.take(kind.noun()) {
         return None;
     }
-    let Some(number) = rest.number() else {
+    let Some(number) = number(rest) else {
         return None;
     };
     if !rest.take(b"\n") {

@@ -5,13 +5,13 @@ ghost use Rattle.ledger.specs.Real.{HasCodes};
 ghost use Rattle.merging.specs.Merges.{IsFileAdded, IsFileError, IsMerge, IsMergingError, IsTextAdded};
 ghost use Rattle.merging.specs.Merges.{IsLedgerTextError, IsLocated};
 
-use crate::cursor::Cursor;
 use crate::error::{MergeError, MergeRefusal, TextError};
 use crate::kind::Kind;
 use crate::text::read;
 use common::OutOfMemory;
 use ledger::Ledger;
 use std::alloc::Global;
+use texts::Cursor;
 
 /// The counts of several texts of one kind.
 #[derive(Drop)]

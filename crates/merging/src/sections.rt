@@ -6,7 +6,6 @@ ghost use Rattle.merging.specs.Sections.{AreAlike, AreSections, Fits, IsSection,
 ghost use Rattle.merging.specs.Sections.{Section as Part};
 ghost use Rattle.merging.specs.Unread.{IsFileOfSections, IsOther, IsNoSection, IsUnread, IsUnreadFile};
 
-use crate::cursor::Cursor;
 use crate::error::{MergeError, MergeRefusal, TextError};
 use crate::header::header;
 use crate::kind::Kind;
@@ -16,6 +15,7 @@ use common::OutOfMemory;
 use headers::{Counted, Header};
 use std::alloc::Global;
 use std::marker::Model;
+use texts::Cursor;
 
 /// A text of counts with its header.
 #[derive(Drop)]
@@ -109,7 +109,7 @@ fn fits(header: &Header, total: usize) -> bool
 
 /// Why what stands next is no header.
 fn header_refusal(rest: &Cursor<'_>) -> MergeRefusal {
-    if rest.begins(b"#") {
+    if rest.rest().starts_with(b"#") {
         MergeRefusal::NoLine
     } else {
         MergeRefusal::NoHeader

@@ -10,7 +10,6 @@ ghost use Rattle.merging.specs.Parts.{HasSameCounts, Is64BitLedger, Is64BitPlace
 ghost use Rattle.merging.specs.Parts.{place_read};
 ghost use Rattle.merging.specs.Texts.{all_name, noun, text_of, unjudged_name};
 
-use crate::cursor::Cursor;
 use crate::cycles::cycle_counts;
 use crate::error::{MergeRefusal, TextError};
 use crate::kind::Kind;
@@ -18,6 +17,7 @@ use crate::lines::{count, first};
 use common::OutOfMemory;
 use ledger::Ledger;
 use std::alloc::Global;
+use texts::Cursor;
 
 /// The counts of the first four lines.
 #[derive(Clone, Copy, Drop)]
@@ -130,7 +130,7 @@ fn whole(rest: &mut Cursor<'_>, alloc: Global, kind: Kind) -> Result<Option<Ledg
 
 /// Why a text is refused that has a line which is none of it: it begins as one of the other kind, or it doesn't.
 fn line_refusal(start: &Cursor<'_>, kind: Kind) -> MergeRefusal {
-    if start.begins(kind.other().all_name()) {
+    if start.rest().starts_with(kind.other().all_name()) {
         MergeRefusal::OtherKind
     } else {
         MergeRefusal::NoLine

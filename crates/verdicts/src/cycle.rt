@@ -26,8 +26,8 @@ fn reason_name(reason: Reason) -> &'static [u8]
     }
 }
 
-/// Adds the line of a pair with a reason.
-fn put_reason(
+/// Adds the line of a pair with a reason. Fails only if out of memory.
+pub fn put_reason(
     out: &mut Vec<u8>,
     first: EventId,
     second: EventId,
@@ -92,8 +92,8 @@ fn put_labels(
     Ok(())
 }
 
-/// Adds a line for each row of labels, most of which are no more than this number.
-fn put_rows(
+/// Adds a line for each row of labels, most of which are no more than this number. Fails only if out of memory.
+pub fn put_rows(
     alloc: Global,
     out: &mut Vec<u8>,
     rows: &[Vec<u16>],

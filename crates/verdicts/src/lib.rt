@@ -8,7 +8,7 @@ mod refusal;
 mod text;
 mod verdict;
 
-pub use cycle::put_pairs;
+pub use cycle::{put_pairs, put_reason, put_rows};
 pub use outcome::Outcome;
 pub use printed::{Answer, outcome_of, verdict_answer};
 pub use refusal::recording_line;

@@ -1,9 +1,8 @@
-pub mod Digits
-pub mod Texts
-pub mod Pairs
-pub mod Labels
-pub mod Heads
-pub mod Certificates
+pub mod Spelling
+pub mod PairNumbers
+pub mod AnswersSpelled
+pub mod LabelNumbers
+pub mod VerdictsSpelled
+pub mod OneText
 pub mod Judged
 pub mod Findings
-pub mod PairsOnly

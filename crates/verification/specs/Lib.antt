@@ -1,2 +1,3 @@
 pub mod Proof
 pub mod Checked
+pub mod Spelled

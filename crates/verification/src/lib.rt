@@ -2,14 +2,13 @@
 #![tactic(auto)]
 
 mod answered;
-mod certified;
-mod cursor;
-mod cycle;
+mod fault;
+mod holding;
+mod labelled;
 mod law;
 mod numbers;
-mod ordered;
-mod overlooked;
-mod rows;
+mod printed;
+mod reading;
 mod text;
 mod text_check;
 mod unlabelled;

@@ -4,42 +4,27 @@ ghost use Rattle.std.specs.Prelude.{◌≡◌, ◌≤◌, ◌↔◌, IfOk};
 ghost use Rattle.common.specs.declared.limits.TheConstants.{MAX_EVENTS};
 ghost use Rattle.recording.specs.Execution.{event_count};
 ghost use Rattle.verification.specs.declared.text_check.TextCheck.TheVariants.{Holds};
-ghost use Rattle.verification.specs.Proof.{IsLineProof, IsProof, IsTextOfVerdict};
+ghost use Rattle.verification.specs.Proof.{IsProof, IsTextOfVerdict};
 
-use crate::certified::{check_cycle, check_cycle_alone};
-use crate::cursor::Cursor;
+use crate::fault::fault;
+use crate::holding::{holds, holds_by};
+use crate::labelled::read_verdict;
 use crate::law::every_verdict_holds;
-use crate::ordered::check_order;
-use crate::overlooked::check_overlook;
+use crate::printed::compare_verdict;
 use crate::text_check::TextCheck;
 use common::OutOfMemory;
 use recording::Recording;
 use std::alloc::Global;
 use std::thread::Threads;
 
-/// Whether a text is the line of a memory order of TSO, or of a read that overlooks a store. Fails only if out of memory.
-pub(crate) fn check_line(
-    alloc: Global,
-    recording: &Recording,
-    rest: &mut Cursor<'_>,
-) -> Result<TextCheck, OutOfMemory>
-    ensures { IfOk result (λ f. (f ≡ Holds) ↔ IsLineProof recording.now rest.old) }
-{
-    if rest.take(b"ordered:") {
-        return check_order(alloc, recording, rest);
-    }
-    if rest.take(b"overlook: load ") {
-        return Ok(check_overlook(recording, rest));
-    }
-    Ok(rest.failure())
-}
-
-/// Whether a text is that of a verdict that holds of a recording of at most `MAX_EVENTS` events, whoever wrote it: the line of any memory
-/// order of TSO, of any read that overlooks a store, or any shortest cycle of forced pairs, each with its
-/// first reason, and labels of at most 16 bits that show that none is shorter. With more than one worker the
-/// labels are checked by threads. Else the first line that is at fault, given those before it: a row of labels
-/// is where it doesn't show that no cycle through its event is shorter. Any bytes will do. The memory that it
-/// takes goes with the square of the number of events, however long the text is. Fails only if out of memory.
+/// Whether a text is that of a verdict that holds of a recording of at most `MAX_EVENTS` events, whoever wrote it: the
+/// line of any memory order of TSO, of any read that overlooks a store, or any shortest cycle of forced pairs, each
+/// with its first reason, and labels of at most 16 bits that show that none is shorter. With more than one worker the
+/// labels are checked by threads. The numbers of the text are read whatever stands between them; the verdict of these
+/// numbers is checked, printed and compared. Else the first line that differs from what is printed, as far as the
+/// numbers hold: a row of labels holds where it shows that no cycle through its event is shorter. Any bytes will do. The
+/// memory that it takes goes with the square of the number of events, however long the text is. Fails only if out of
+/// memory.
 pub fn check_text<R: Threads + Sync>(
     rt: &R,
     alloc: Global,
@@ -53,11 +38,14 @@ pub fn check_text<R: Threads + Sync>(
 {
     recording.sound();
     every_verdict_holds();
-    let mut rest = Cursor::new(text);
-    if rest.take(b"cycle of ") {
-        return check_cycle(rt, alloc, recording, &mut rest, workers);
+    let Some(verdict) = read_verdict(alloc, recording, text)? else {
+        return fault(alloc, recording, text);
+    };
+    let holds = holds_by(rt, alloc, recording, &verdict, workers)?;
+    if !holds {
+        return fault(alloc, recording, text);
     }
-    check_line(alloc, recording, &mut rest)
+    compare_verdict(alloc, recording, text, &verdict)
 }
 
 /// What `check_text` answers, without threads: it does not block. Fails only if out of memory.
@@ -72,9 +60,12 @@ pub fn check_text_alone(
 {
     recording.sound();
     every_verdict_holds();
-    let mut rest = Cursor::new(text);
-    if rest.take(b"cycle of ") {
-        return check_cycle_alone(alloc, recording, &mut rest);
+    let Some(verdict) = read_verdict(alloc, recording, text)? else {
+        return fault(alloc, recording, text);
+    };
+    let holds = holds(alloc, recording, &verdict)?;
+    if !holds {
+        return fault(alloc, recording, text);
     }
-    check_line(alloc, recording, &mut rest)
+    compare_verdict(alloc, recording, text, &verdict)
 }

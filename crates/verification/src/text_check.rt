@@ -5,7 +5,8 @@
 pub enum TextCheck {
     /// It is.
     Holds,
-    /// It is not: this line, counted from 1, is the first with which no such text goes on.
+    /// It is not: this line, counted from 1, is the first that differs from what is printed of a verdict with the
+    /// numbers of the text, as far as they hold.
     FailsAt(usize),
     /// It is not: each line may stand in such a text, and more lines are due.
     EndsEarly,

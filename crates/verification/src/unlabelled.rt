@@ -1,51 +1,112 @@
 //! The check of a text without labels.
 
-ghost use Rattle.std.specs.Prelude.{◌≡◌, ◌++◌, ◌↔◌, IfOk, codes};
+ghost use Rattle.std.specs.Prelude.{◌≡◌, ◌++◌, ◌↔◌, ℕ, List, IfOk, IsTrue, MatchOption, OnOk};
+ghost use Rattle.relations.specs.Cycle.{IsCycle};
+ghost use Rattle.relations.specs.Forced.{Forced};
+ghost use Rattle.long.specs.Answer.{IsWitness};
+ghost use Rattle.long.specs.Texts.{IsLongText};
+ghost use Rattle.long.specs.declared.answer.LongAnswer.{LongAnswer as Given};
 ghost use Rattle.verification.specs.declared.text_check.TextCheck.TheVariants.{Holds};
 ghost use Rattle.verification.specs.Proof.{IsLongProof, IsTextOfAnswer};
+ghost use Rattle.verification.specs.Spelled.{IsSameAnswer};
 
-use crate::cursor::Cursor;
-use crate::cycle::cycle;
+use crate::fault::long_fault;
 use crate::law::every_answer_holds;
-use crate::text::check_line;
+use crate::printed::compare;
+use crate::reading::read_answer;
 use crate::text_check::TextCheck;
-use common::OutOfMemory;
+use common::{EventId, OutOfMemory};
+use long::{LongAnswer, is_tso_order};
 use recording::Recording;
-use relations::Places;
+use relations::{Places, is_overlook, next_in_cycle};
 use std::alloc::Global;
+use texts::{Cursor, put_text_and_number};
+use verdicts::{put_order, put_overlook, put_pairs};
 
-/// Whether what is left is a cycle of forced pairs, each with its first reason, and nothing else.
-fn check_pairs(
-    rest: &mut Cursor<'_>,
-    alloc: Global,
-    places: &Places<'_>,
-) -> Result<TextCheck, OutOfMemory>
-    ensures { IfOk result (λ f. (f ≡ Holds) ↔ IsLongProof places.now (codes "cycle of " ++ rest.old)) }
-{
-    places.sound();
-    let most = rest.left();
-    let Some(_events) = cycle(rest, alloc, places, most)? else {
-        return Ok(rest.failure());
-    };
-    Ok(rest.end())
-}
-
-/// Whether what is left is a cycle of a recording. Fails only if out of memory.
-fn check_long_cycle(
+/// The answer with the numbers of a text, whatever stands between them.
+fn read_long(
     alloc: Global,
     recording: &Recording,
-    rest: &mut Cursor<'_>,
-) -> Result<TextCheck, OutOfMemory>
-    ensures { IfOk result (λ f. (f ≡ Holds) ↔ IsLongProof recording.now (codes "cycle of " ++ rest.old)) }
+    text: &[u8],
+) -> Result<Option<LongAnswer>, OutOfMemory>
+    ensures { IfOk result (λ r. (a : Given) → IsLongText recording.now a text.now → IsWitness recording.now a
+        → MatchOption r ⊥ (IsSameAnswer a)) }
 {
-    let places = Places::of(alloc, recording)?;
-    check_pairs(rest, alloc, &places)
+    recording.sound();
+    let mut rest = Cursor::new(text);
+    // The line of a pair has more than eight bytes.
+    read_answer(&mut rest, alloc, recording.len(), text.len() / 8)
+}
+
+/// Whether each event of a list of any numbers is forced before the next, and the last before the first.
+fn is_cycle(places: &Places<'_>, cycle: &[EventId]) -> bool
+    ensures { IsTrue result ↔ IsCycle (Forced places.now) cycle.now }
+{
+    for i in 0..cycle.len() {
+        let Some(_reason) = places.reason(cycle[i], next_in_cycle(cycle, i)) else {
+            return false;
+        };
+    }
+    cycle.len() > 0
+}
+
+/// Whether an answer holds of the recording with these places.
+fn is_witness(
+    alloc: Global,
+    recording: &Recording,
+    places: &Places<'_>,
+    answer: &LongAnswer,
+) -> Result<bool, OutOfMemory>
+    requires { places.now ≡ recording.now }
+    ensures { IfOk result (λ is. IsTrue is ↔ IsWitness recording.now answer.now) }
+{
+    match answer {
+        LongAnswer::Order(order) => is_tso_order(alloc, places, order),
+        LongAnswer::Overlook(load, store) => Ok(is_overlook(recording, *load, *store)),
+        LongAnswer::Cycle(cycle) => Ok(is_cycle(places, cycle)),
+    }
+}
+
+/// Adds the text of an answer that holds of the recording with these places.
+fn put_answer(
+    out: &mut Vec<u8>,
+    places: &Places<'_>,
+    answer: &LongAnswer,
+) -> Result<(), OutOfMemory>
+    requires { IsWitness places.now answer.now }
+    ensures { OnOk result ((text : List ℕ) × IsLongText places.now answer.now text
+        × (out.new.items ≡ out.old.items ++ text)) }
+{
+    match answer {
+        LongAnswer::Order(order) => put_order(out, order),
+        LongAnswer::Overlook(load, store) => put_overlook(out, *load, *store),
+        LongAnswer::Cycle(cycle) => {
+            put_text_and_number(out, b"cycle of ", cycle.len())?;
+            out.push(b'\n')?;
+            put_pairs(out, places, cycle)
+        }
+    }
+}
+
+/// Whether a text is that of an answer that holds, or else the first line that differs.
+fn compare_answer(
+    alloc: Global,
+    places: &Places<'_>,
+    text: &[u8],
+    answer: &LongAnswer,
+) -> Result<TextCheck, OutOfMemory>
+    requires { IsWitness places.now answer.now }
+    ensures { IfOk result (λ f. (f ≡ Holds) ↔ IsLongText places.now answer.now text.now) }
+{
+    let mut printed = Vec::new(alloc);
+    put_answer(&mut printed, places, answer)?;
+    Ok(compare(text, &printed))
 }
 
 /// Whether a text is what a recording of any length has, whoever wrote it: the line of any memory order of TSO, of any
 /// read that overlooks a store, or any cycle of forced pairs, each with its first reason, whatever its length, without
-/// labels. Else the first line that is at fault, given those before it. Any bytes will do. It does not block. Fails only
-/// if out of memory.
+/// labels. Else the first line that differs from what is printed of an answer with the numbers of the text, as far as
+/// they hold. Any bytes will do. It does not block. Fails only if out of memory.
 pub fn check_long_text(
     alloc: Global,
     recording: &Recording,
@@ -55,9 +116,13 @@ pub fn check_long_text(
     ensures judged { IfOk result (λ f. IsTextOfAnswer recording.now text.now → f ≡ Holds) }
 {
     every_answer_holds();
-    let mut rest = Cursor::new(text);
-    if rest.take(b"cycle of ") {
-        return check_long_cycle(alloc, recording, &mut rest);
+    let places = Places::of(alloc, recording)?;
+    let Some(answer) = read_long(alloc, recording, text)? else {
+        return long_fault(alloc, &places, text);
+    };
+    let holds = is_witness(alloc, recording, &places, &answer)?;
+    if !holds {
+        return long_fault(alloc, &places, text);
     }
-    check_line(alloc, recording, &mut rest)
+    compare_answer(alloc, &places, text, &answer)
 }

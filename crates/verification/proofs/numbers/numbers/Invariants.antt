@@ -1,13 +1,8 @@
-use Rattle.std.proofs.Common.{◌≡◌, ◌++◌, ◌∷◌, ℕ, List, length, take, drop}
-use Rattle.texts.specs.Numbers.{numbers_text}
-use Rattle.verification.specs.Proof.{AreNumbers, Are32Bit}
+use Rattle.std.proofs.Common.{◌≡◌, ◌++◌, ℕ, List, drop, length, take}
+use Rattle.verification.specs.Spelled.{Spells}
 use Rattle.verification.proofs.numbers.numbers.Given as goal
 
+-- the first of the numbers that the text spells were taken, and the others are left
 abbrev pub invariant-loop-i : goal.invariant-loop-i
-invariant-loop-i l = record {
-  size : length l.numbers.items ≡ l.i;
-  short : Are32Bit l.numbers.items;
-  text : l.fn.rest ≡ numbers_text l.numbers.items ++ l.rest;
-  only : (ns more : List ℕ) → AreNumbers l.count ns → l.fn.rest ≡ numbers_text ns ++ 10 ∷ more
-      → (l.numbers.items ≡ take l.i ns) × (l.rest ≡ numbers_text (drop l.i ns) ++ 10 ∷ more);
-}
+invariant-loop-i l = (ns later : List ℕ) → length ns ≡ l.count → Spells (ns ++ later) l.fn.rest
+    → (l.numbers.items ≡ take l._i ns) × Spells (drop l._i ns ++ later) l.rest
