@@ -13,7 +13,6 @@ use Rattle.recorder.specs.Reading.{natural, value_in, source_in}
 use Rattle.recorder.specs.Reading.{member_event, event_in}
 use Rattle.recorder.specs.Written.{IsFitting}
 use Rattle.recording.specs.declared.event.Event.{Event}
-use Rattle.recorder.proofs.WrittenTexts.{push_fits}
 
 -- the number of an event or of an address
 pub number_again : (n : ℕ) → natural (number_data n) ≡ Some n
@@ -36,6 +35,12 @@ event_again (S a w) h = rw (lt-ltb w (2 ^ 32) h.1) refl
 event_again (R a r s w) h = rw (lt-ltb r (2 ^ 32) h.1, source_again s, lt-ltb w (2 ^ 32) h.3) refl
 event_again (C a r s) h = rw (lt-ltb r (2 ^ 32) h.1, source_again s) refl
 event_again F h = refl
+
+-- an item more
+push_fits : {A : Type 0} (Fits : A → Type 0) (xs : List A) (x : A) → AllByRecursion Fits xs → Fits x
+    → AllByRecursion Fits (xs ++ x ∷ [])
+push_fits Fits [] x all one = (one, tt)
+push_fits Fits (y ∷ ys) x all one = (all.0, push_fits Fits ys x all.1 one)
 
 -- one item more that fits
 pub fits_more : {A : Type 0} (Fits : A → Type 0) (xs : List A) (i : ℕ) (x : A) → i < length xs

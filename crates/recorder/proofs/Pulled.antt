@@ -1,17 +1,23 @@
--- Reading values, lists and objects token by token.
+-- Reading values, lists and objects by the tokens that the bytes write.
 use Rattle.std.proofs.Common.{◌≡◌, ◌<◌, ◌≤◌, ◌-◌, ℕ, suc, List, [], ◌∷◌, ◌++◌, length, Option, Some, None}
-use Rattle.std.proofs.Common.{option_map, option_and_then, refl, ap, ◌∙◌, arith}
+use Rattle.std.proofs.Common.{option_map, option_and_then, refl, ap, ◌∙◌, arith, ◌⊎◌, inl, inr, subst, Bool, true}
+use Rattle.std.proofs.Common.{false}
 use Rattle.std.proofs.Common.{append-nil, append_assoc}
 use Rattle.json.specs.Token.{Token}
+use Rattle.json.specs.Lex.{Lexeme, token, comma, colon, lex, between, punctuate, place_token, fresh, after_comma}
+use Rattle.json.specs.Lex.{begins_colon}
 use Rattle.json.specs.Json as json
 use Rattle.json.specs.Json.{parse_map, after_end_array, read_key, items, members, value, if_last}
 use Rattle.json.proofs.Grammar.{left, value_is, skip_value-shorter}
 use Rattle.json.proofs.Grammar.{items_end, items_more, members_end, members_more, read_key-shorter}
-use Rattle.serde_json.specs.Data.{Data, Num, null, number, string, array, object, Items, no_items}
+use Rattle.serde_json.specs.Data.{Data, Num, null, boolean, number, string, array, object}
+use Rattle.serde_json.specs.Data.{Items, no_items}
 use Rattle.serde_json.specs.Data.{item, Members, no_members, put}
 use Rattle.serde_json.specs.Read.{number_of, of_json, of_items, of_members, converted}
+use Rattle.serde_json.specs.Find.{as_u64}
+use Rattle.recorder.specs.Clipped.{clip, clipped_number}
 use Rattle.recorder.specs.Reading.{each, list_in}
-use Rattle.recorder.specs.Pulled.{GivesValue, Adds, GivesMembers}
+use Rattle.recorder.specs.Pulled.{GivesValue, Adds, GivesMembers, clipped_source, value_tokens, fresh_tokens}
 
 -- ---- a value
 
@@ -73,12 +79,72 @@ gives_also f g depth ts rest x y also h = record {
       h.gives;
 }
 
+-- a source that is a number
+pub source_is_number : (n : ℕ) (d : Data) → clipped_number d ≡ Some n → clipped_source d ≡ Some (Some n)
+source_is_number n null is = absurd cc
+source_is_number n (boolean b) is = absurd cc
+source_is_number n (number x) is = go (as_u64 x) is
+  where
+    go : (o : Option ℕ) → option_map clip o ≡ Some n → option_map (option_map clip) (option_map Some o) ≡ Some (Some n)
+    go None is = absurd cc
+    go (Some m) is = ap Some is
+source_is_number n (string s) is = absurd cc
+source_is_number n (array ds) is = absurd cc
+source_is_number n (object ms) is = absurd cc
+
 -- a value takes a token
 value_takes : (depth : ℕ) (ts rest : List Token) (d : Data)
     → converted of_json (value depth ts) ≡ Some (d, rest) → length rest < length ts
 value_takes depth ts rest d read =
     let j = converted_some of_json (value depth ts) d rest read in
     skip_value-shorter depth ts rest (ap left j.1)
+
+-- ---- after a bracket or a colon
+
+-- what may stand after a comma is the same after a bracket
+begun : (ls : List Lexeme)
+    → (punctuate after_comma ls ≡ punctuate fresh ls) ⊎ (punctuate after_comma ls ≡ Token.bad ∷ [])
+unfolding punctuate
+begun [] = inr refl
+begun (comma ∷ ls) = inr refl
+begun (colon ∷ ls) = inr refl
+begun (token Token.begin_object ∷ ls) = inl refl
+begun (token Token.end_object ∷ ls) = inr refl
+begun (token Token.begin_array ∷ ls) = inl refl
+begun (token Token.end_array ∷ ls) = inr refl
+begun (token (Token.key s) ∷ ls) = inl refl
+begun (token (Token.string s) ∷ ls) = go (begins_colon ls)
+  where
+    go : (b : Bool) → (place_token after_comma (Token.string s) b (λ next. punctuate next ls)
+        ≡ place_token fresh (Token.string s) b (λ next. punctuate next ls))
+        ⊎ (place_token after_comma (Token.string s) b (λ next. punctuate next ls) ≡ Token.bad ∷ [])
+    go true = inl refl
+    go false = inl refl
+begun (token (Token.number s) ∷ ls) = inl refl
+begun (token (Token.boolean b) ∷ ls) = inl refl
+begun (token Token.null ∷ ls) = inl refl
+begun (token Token.bad ∷ ls) = inl refl
+
+-- no value is bad
+no_value : (depth : ℕ) → value depth (Token.bad ∷ []) ≡ None
+no_value depth = value_is depth (Token.bad ∷ [])
+
+-- a value after a bracket or a colon
+pub fresh_value : {A : Type 0} (f : Data → Option A) (depth : ℕ) (t : List ℕ) (x : A) (rest : List Token)
+    → GivesValue f depth (value_tokens t) x rest → GivesValue f depth (fresh_tokens t) x rest
+fresh_value {A} f depth t x rest h = elim (begun (lex between t)) [
+  | inl same ↦ subst (λ (ts : List Token). GivesValue f depth ts x rest) same h
+  | inr bad ↦ let read = h.read in let no = rw (bad, no_value depth) at read in absurd cc
+]
+
+-- a value of a member
+pub fresh_adds : {S : Type 0} (Are : S → Members → Type 0) (key : List ℕ) (depth : ℕ) (t : List ℕ)
+    (rest : List Token) (old new : S) → Adds Are key depth (value_tokens t) rest old new
+    → Adds Are key depth (fresh_tokens t) rest old new
+fresh_adds Are key depth t rest old new h = elim (begun (lex between t)) [
+  | inl same ↦ subst (λ (ts : List Token). Adds Are key depth ts rest old new) same h
+  | inr bad ↦ let read = h.read in let no = rw (bad, no_value depth) at read in absurd cc
+]
 
 -- ---- the items of an array
 
@@ -121,7 +187,7 @@ pub record Came {A : Type 0} (f : Data → Option A) (depth : ℕ) (all : List T
       → GivesItems f depth (length all) all (xs ++ ys) rest
 
 -- at the start none was read
-pub came_start : {A : Type 0} (f : Data → Option A) (depth : ℕ) (ts : List Token) (xs : List A) → xs ≡ []
+came_start : {A : Type 0} (f : Data → Option A) (depth : ℕ) (ts : List Token) (xs : List A) → xs ≡ []
     → Came f depth ts xs ts
 came_start f depth ts xs none = record {
   n = length ts;
@@ -129,13 +195,44 @@ came_start f depth ts xs none = record {
   onward = λ ys rest more. rw none more;
 }
 
+-- no item is bad
+no_items_there : (depth : ℕ) → items (value depth) 1 (Token.bad ∷ []) ≡ None
+unfolding items
+no_items_there depth = rw (no_value depth) refl
+
+-- none is read after the bracket that opens the array
+pub came_begun : {A : Type 0} (f : Data → Option A) (depth : ℕ) (t : List ℕ) (xs : List A) → xs ≡ []
+    → Came f depth (fresh_tokens t) xs (value_tokens t)
+came_begun {A} f depth t xs none = elim (begun (lex between t)) [
+  | inl same ↦ rw same (came_start f depth (fresh_tokens t) xs none)
+  | inr bad ↦ rw bad (record {
+    n = 1;
+    enough = omega arith;
+    onward = λ ys rest more. let read = more.read in let no = rw (no_items_there depth) at read in absurd cc;
+  })
+]
+
+-- where a value begins no array ends
+value_begins : (depth : ℕ) (ts rest : List Token) (d : Data) → converted of_json (value depth ts) ≡ Some (d, rest)
+    → after_end_array ts ≡ None
+value_begins depth [] rest d read = refl
+value_begins depth (Token.begin_object ∷ ts) rest d read = refl
+value_begins depth (Token.end_object ∷ ts) rest d read = refl
+value_begins depth (Token.begin_array ∷ ts) rest d read = refl
+value_begins depth (Token.end_array ∷ ts) rest d read =
+    let no = rw (value_is depth (Token.end_array ∷ ts)) at read in absurd cc
+value_begins depth (Token.key s ∷ ts) rest d read = refl
+value_begins depth (Token.string s ∷ ts) rest d read = refl
+value_begins depth (Token.number s ∷ ts) rest d read = refl
+value_begins depth (Token.boolean b ∷ ts) rest d read = refl
+value_begins depth (Token.null ∷ ts) rest d read = refl
+value_begins depth (Token.bad ∷ ts) rest d read = refl
+
 -- one item more
-pub came_more : {A : Type 0} (f : Data → Option A) (depth : ℕ) (all ts same mid : List Token)
-    (xs zs : List A) (x : A) → Came f depth all xs ts → (after_end_array ts ≡ None) × (same ≡ ts)
-    → GivesValue f depth same x mid → zs ≡ xs ++ x ∷ [] → Came f depth all zs mid
-came_more f depth all ts same mid xs zs x came test given push =
-    let going = test.0 in
-    let one : GivesValue f depth ts x mid = rw (← test.1) given in
+pub came_more : {A : Type 0} (f : Data → Option A) (depth : ℕ) (all ts mid : List Token) (xs zs : List A) (x : A)
+    → Came f depth all xs ts → GivesValue f depth ts x mid → zs ≡ xs ++ x ∷ [] → Came f depth all zs mid
+came_more f depth all ts mid xs zs x came one push =
+    let going : after_end_array ts ≡ None = value_begins depth ts mid one.datum one.read in
     let less : length mid < length ts = value_takes depth ts mid one.datum one.read in
     record {
       n = came.n - 1;
@@ -153,10 +250,9 @@ unfolding value
 begun_array depth all = refl
 
 -- an item makes the tokens fewer
-pub came_shorter : {A : Type 0} (f : Data → Option A) (depth : ℕ) (ts same mid : List Token) (x : A)
-    → (after_end_array ts ≡ None) × (same ≡ ts) → GivesValue f depth same x mid → length mid < length ts
-came_shorter f depth ts same mid x test one =
-    rw (← test.1) (value_takes depth same mid one.datum one.read)
+pub came_shorter : {A : Type 0} (f : Data → Option A) (depth : ℕ) (ts mid : List Token) (x : A)
+    → GivesValue f depth ts x mid → length mid < length ts
+came_shorter f depth ts mid x one = value_takes depth ts mid one.datum one.read
 
 -- at the bracket all are read
 pub came_all : {A : Type 0} (f : Data → Option A) (depth : ℕ) (all ts rest old : List Token) (xs : List A)
@@ -172,6 +268,12 @@ came_all f depth all ts rest old xs came over begins =
       gives = h.gives ∙ ap Some (append-nil xs);
     }
 
+-- an array of no item
+pub came_empty : {A : Type 0} (f : Data → Option A) (depth : ℕ) (all rest old : List Token)
+    → after_end_array all ≡ Some rest → old ≡ Token.begin_array ∷ all → GivesValue (list_in f) (suc depth) old [] rest
+came_empty f depth all rest old over begins =
+    came_all f depth all all rest old [] (came_start f depth all [] refl) over begins
+
 -- ---- the members of an object
 
 -- members that were read, before those that are left
@@ -180,20 +282,40 @@ pub record Reached {S : Type 0} (Are : S → Members → Type 0) (depth : ℕ) (
   pub n : ℕ
   pub enough : length ts ≤ n
   pub found : Members
-  pub onward : converted (λ ms. of_members ms no_members) (members (value depth) (length all) all)
-      ≡ converted (λ ms. of_members ms found) (members (value depth) n ts)
+  pub onward : (ms : Members) (rest : List Token)
+      → converted (λ js. of_members js found) (members (value depth) n ts) ≡ Some (ms, rest)
+      → converted (λ js. of_members js no_members) (members (value depth) (length all) all) ≡ Some (ms, rest)
   pub are : Are s found
 
+-- no member is bad
+no_members_there : (depth : ℕ) → members (value depth) 1 (Token.bad ∷ []) ≡ None
+unfolding members
+no_members_there depth = refl
+
 -- at the start none was read
-pub reached_start : {S : Type 0} (Are : S → Members → Type 0) (depth : ℕ) (ts : List Token) (s : S)
+reached_start : {S : Type 0} (Are : S → Members → Type 0) (depth : ℕ) (ts : List Token) (s : S)
     → Are s no_members → Reached Are depth ts ts s
 reached_start Are depth ts s are = record {
   n = length ts;
   enough = omega arith;
   found = no_members;
-  onward = refl;
+  onward = λ ms rest read. read;
   are = are;
 }
+
+-- none is read after the brace that opens the object
+pub reached_begun : {S : Type 0} (Are : S → Members → Type 0) (depth : ℕ) (t : List ℕ) (s : S)
+    → Are s no_members → Reached Are depth (fresh_tokens t) (value_tokens t) s
+reached_begun Are depth t s are = elim (begun (lex between t)) [
+  | inl same ↦ rw same (reached_start Are depth (fresh_tokens t) s are)
+  | inr bad ↦ rw bad (record {
+    n = 1;
+    enough = omega arith;
+    found = no_members;
+    onward = λ ms rest read. let no = rw (no_members_there depth) at read in absurd cc;
+    are = are;
+  })
+]
 
 -- one member more goes in
 member_in : (k : List ℕ) (j : json.Json) (d : Data) (old : Members) → of_json j ≡ Some d
@@ -215,10 +337,10 @@ reached_more Are depth all ts mid rest key s t h named one =
       n = h.n - 1;
       enough = omega (arith, h.enough, less, lesser);
       found = put key one.datum h.found;
-      onward = h.onward
-          ∙ ap (converted (λ ms. of_members ms h.found)) (members_more (value depth) h.n key ts mid rest j.0
+      onward = λ ms over read. h.onward ms over
+          (ap (converted (λ js. of_members js h.found)) (members_more (value depth) h.n key ts mid rest j.0
           (omega (arith, h.enough, less)) named j.1)
-          ∙ member_in key j.0 one.datum h.found j.2 (members (value depth) (h.n - 1) rest);
+          ∙ member_in key j.0 one.datum h.found j.2 (members (value depth) (h.n - 1) rest) ∙ read);
       are = one.adds h.found h.are;
     }
 
@@ -227,8 +349,8 @@ pub reached_all : {S : Type 0} (Are : S → Members → Type 0) (depth : ℕ) (a
     → Reached Are depth all ts s → read_key ts ≡ Some (None, rest) → GivesMembers Are depth all rest s
 reached_all Are depth all ts rest s h over = record {
   found = h.found;
-  read = h.onward ∙ ap (converted (λ ms. of_members ms h.found)) (members_end (value depth) h.n ts rest
-      h.enough over);
+  read = h.onward h.found rest (ap (converted (λ js. of_members js h.found)) (members_end (value depth) h.n ts rest
+      h.enough over));
   are = h.are;
 }
 

@@ -9,18 +9,18 @@ use Rattle.serde_json.specs.Read.{max_depth}
 use Rattle.serde_json.specs.Data.{Members, object}
 use Rattle.recording.specs.declared.size.RecordingSize.{RecordingSize}
 use Rattle.recording.specs.declared.event.Event.{Event}
-use Rattle.recorder.specs.declared.tokens.ReadMembers.{ReadMembers}
+use Rattle.recorder.specs.declared.plain.ReadMembers.{ReadMembers}
 use Rattle.recorder.specs.declared.reading.Parsed.{Parsed}
 use Rattle.recorder.specs.ParsedModel.{ParsedModel}
 use Rattle.recorder.specs.ParsedModel.{model_of}
 use Rattle.recorder.specs.Held.{HoldsCores, HoldsLists, HoldsSome, StandsFor}
 use Rattle.recorder.specs.Reading.{natural, value_in, list_in, parsed_parts, contents_of}
 use Rattle.recorder.specs.Clipped.{clipped_number, clipped_event}
-use Rattle.recorder.specs.Pulled.{GivesValue, Adds}
+use Rattle.recorder.specs.Pulled.{GivesValue, Adds, value_tokens}
 use Rattle.recorder.specs.ReadMembers.{count_of}
 use Rattle.recorder.specs.ReadMembers.{AreParts, clipped_contents, IsParsedFrom}
 use Rattle.recorder.proofs.AtKeys.{adds, at_new, at_other, at_key_is, count_new}
-use Rattle.recorder.proofs.Pulled.{whole_read}
+use Rattle.recorder.proofs.Pulled.{fresh_value, whole_read}
 use Rattle.recorder.proofs.ClippedContents.{shape_given}
 
 -- ---- one member more
@@ -168,11 +168,11 @@ found_gives size p n ms o q h count is found =
     )
 
 -- the bytes are read so, where their tokens give the contents and nothing follows
-pub members_read : (size : RecordingSize) (bytes text : List ℕ) (reader : List Token) (c : ParsedModel) (q : Parsed)
-    → (text ≡ bytes) × IsUtf8 bytes → reader ≡ tokens text
-    → GivesValue clipped_contents max_depth reader c [] → StandsFor size (model_of q) c → IsParsedFrom size bytes q
-members_read size bytes text reader c q read is given stands =
-    let all : reader ≡ tokens bytes = is ∙ ap tokens read.0 in
+pub members_read : (size : RecordingSize) (bytes text : List ℕ) (c : ParsedModel) (q : Parsed) → IsUtf8 bytes
+    → text ≡ bytes → GivesValue clipped_contents max_depth (value_tokens text) c []
+    → StandsFor size (model_of q) c → IsParsedFrom size bytes q
+members_read size bytes text c q utf8 is given stands =
     let g : GivesValue clipped_contents max_depth (tokens bytes) c [] =
-    subst (λ (ts : List Token). GivesValue clipped_contents max_depth ts c []) all given in
-    (g.datum, (read.1, whole_read (value max_depth (tokens bytes)) g.datum g.read), c, g.gives, stands)
+    fresh_value clipped_contents max_depth bytes c [] (subst (λ (t : List ℕ).
+    GivesValue clipped_contents max_depth (value_tokens t) c []) is given) in
+    (g.datum, (utf8, whole_read (value max_depth (tokens bytes)) g.datum g.read), c, g.gives, stands)

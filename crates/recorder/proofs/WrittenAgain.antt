@@ -1,8 +1,7 @@
--- What a text in the layout of `write_recording` has is what is read of it.
-use Rattle.std.proofs.Common.{◌≡◌, ◌<◌, ◌≤◌, ◌^◌, ◌+◌, ℕ, List, [], ◌∷◌, ◌++◌, Option, Some, None, option_map, map}
+-- What `write_recording` writes is read back.
+use Rattle.std.proofs.Common.{◌≡◌, ◌<◌, ◌≤◌, ◌^◌, ◌+◌, ℕ, List, [], ◌∷◌, ◌++◌, Option, Some, None, map}
 use Rattle.std.proofs.Common.{option_and_then, false, length, codes}
-use Rattle.std.proofs.Common.{inl, inr, ◌⊎◌, IsUtf8, refl, sym, ap, ◌∙◌, arith, append-nil}
-use Rattle.std.proofs.lemmas.Bool.{lt-ltb}
+use Rattle.std.proofs.Common.{inl, inr, ◌⊎◌, refl, sym, ap, ◌∙◌, arith, append-nil}
 use Rattle.std.specs.List.{AllByRecursion}
 use Rattle.json.specs.Token.{Token}
 use Rattle.json.specs.Lex.{tokens}
@@ -19,21 +18,14 @@ use Rattle.serde_json.specs.View.{items_of}
 use Rattle.serde_json.specs.Written.{outline, items_outline, compact_text, has_float, items_have_float}
 use Rattle.serde_json.proofs.Numbers.{number_of-decimal}
 use Rattle.serde_json.proofs.Texts.{print-outline}
-use Rattle.recording.specs.declared.size.RecordingSize.{RecordingSize}
 use Rattle.recording.specs.declared.event.Event.{Event}
 use Rattle.recording.specs.declared.event.Event.TheVariants.{L, S, R, C, F}
 use Rattle.recording.specs.Execution.{Execution}
 use Rattle.recording.specs.Recording.{executed}
-use Rattle.recorder.specs.declared.reading.Parsed.{Parsed}
-use Rattle.recorder.specs.ParsedModel.{ParsedModel}
-use Rattle.recorder.specs.ParsedModel.{model_of}
-use Rattle.recorder.specs.ReadMembers.{IsParsedFrom, clipped_contents}
-use Rattle.recorder.specs.Clipped.{clip, clip_event, clipped_shape}
 use Rattle.recorder.specs.Reading.{natural, value_in, event_in, list_in, contents_of, shape_in, Decodes}
 use Rattle.recorder.specs.Text.{number_data, list_data, source_data, members, read_members, event_data, data_of}
 use Rattle.recorder.specs.Text.{contents_data, values_of, is_of_version_1}
 use Rattle.recorder.specs.Written.{IsWord, IsWordSource, IsFitting, AreFitting, version_of}
-use Rattle.recorder.specs.Written.{BeginsRecording}
 use Rattle.recorder.proofs.Again.{number_again, value_again, event_again}
 use Rattle.recorder.proofs.Newline.{tokens_newline}
 use Rattle.recorder.proofs.Decoded.{tells}
@@ -109,7 +101,7 @@ read_rereads kind a r s short word source =
     }
 
 -- an event
-event_rereads : (e : Event) → IsFitting e → Rereads 1 (event_data e)
+pub event_rereads : (e : Event) → IsFitting e → Rereads 1 (event_data e)
 event_rereads (L a r s) h = read_rereads (codes "L") a r s h.0 h.1 h.2
 event_rereads (S a w) h =
     let x = number_rereads a (omega (arith, h.0)) in
@@ -195,32 +187,9 @@ read_bytes bytes rest d h is ends =
     ap whole (ap (json.value max_depth) (same ∙ tokens-print ts fine ∙ sym (append-nil ts))
     ∙ value-json_tokens (outline d) max_depth [] (omega (arith, h.shallow))) ∙ h.same
 
--- ---- the value has the contents, and none of them is clipped
+-- ---- the value has the contents
 
--- a number of 32 bits
-clip_same : (n : ℕ) → IsWord n → clip n ≡ n
-clip_same n h = rw (lt-ltb n (2 ^ 32) h) refl
-
--- a source
-clip_source : (s : Option ℕ) → IsWordSource s → option_map clip s ≡ s
-clip_source None h = refl
-clip_source (Some s) h = ap Some (clip_same s h)
-
--- an event
-clip_event_same : (e : Event) → IsFitting e → clip_event e ≡ e
-clip_event_same (L a r s) h = rw (clip_same a h.0, clip_source s h.2) refl
-clip_event_same (S a w) h = rw (clip_same a h.0) refl
-clip_event_same (R a r s w) h = rw (clip_same a h.0, clip_source s h.2) refl
-clip_event_same (C a r s) h = rw (clip_same a h.0, clip_source s h.2) refl
-clip_event_same F h = refl
-
--- each item of a list
-map_same : {A : Type 0} (g : A → A) (Fits : A → Type 0) → ((x : A) → Fits x → g x ≡ x) → (xs : List A)
-    → AllByRecursion Fits xs → map g xs ≡ xs
-map_same g Fits each [] all = refl
-map_same g Fits each (x ∷ xs) all = rw (each x all.0, map_same g Fits each xs all.1) refl
-
--- and so do all items of a list
+-- all items of a list
 fitting_again : {A : Type 0} (f : Data → Option A) (g : A → Data) (Fits : A → Type 0)
     → ((x : A) → Fits x → f (g x) ≡ Some x) → (xs : List A) → AllByRecursion Fits xs
     → list_in f (list_data g xs) ≡ Some xs
@@ -253,38 +222,7 @@ shape_again None cores lists h = rw (cores_again cores h.events, lists_again lis
 shape_again (Some values) cores lists h =
     rw (init_again values h.words, cores_again cores h.events, lists_again lists h.numbers) refl
 
--- and none of their numbers is clipped
-contents_again : (values : Option (List ℕ)) (cores : List (List Event)) (lists : List (List ℕ))
-    → AreFitting values cores lists → clipped_contents (contents_data values cores lists)
-    ≡ Some (record { version = version_of values; cores = cores; write_lists = lists; values = values })
-contents_again values cores lists h =
-    ap (option_map clipped_shape) (shape_again values cores lists h)
-    ∙ rw (
-      map_same (map clip_event) (AllByRecursion IsFitting) (map_same clip_event IsFitting clip_event_same) cores
-          h.events,
-      map_same (map clip) (AllByRecursion IsWord) (map_same clip IsWord clip_same) lists h.numbers,
-    ) refl
-
--- contents of another number of the version
-versioned : (c : ParsedModel) → c.version ≡ version_of c.values
-    → Some (record { version = version_of c.values; cores = c.cores; write_lists = c.write_lists; values = c.values })
-    ≡ Some c
-versioned c is = rw (← is) refl
-
 -- ---- the whole text
-
--- what was found of the bytes is what they have
-pub written_read : (bytes rest : List ℕ) (q : Parsed) → IsUtf8 bytes → BeginsRecording bytes (model_of q) rest
-    → (rest ≡ []) ⊎ (rest ≡ 10 ∷ []) → (size : RecordingSize) → IsParsedFrom size bytes q
-written_read bytes rest q utf8 h ends size =
-    let c : ParsedModel = model_of q in
-    let again = contents_reread c.values c.cores c.write_lists h.fits in (
-      contents_data c.values c.cores c.write_lists,
-      (utf8, read_bytes bytes rest (contents_data c.values c.cores c.write_lists) again h.begins ends),
-      c,
-      contents_again c.values c.cores c.write_lists h.fits ∙ versioned c h.versioned,
-      record { version = refl; values = refl; cores = inl refl; lists = inl refl },
-    )
 
 -- the numbers of an execution fit
 abbrev pub FitsText : Execution → Type 0

@@ -3,6 +3,8 @@ pub mod ParsedModel
 pub mod Reading
 pub mod Clipped
 pub mod Pulled
+pub mod Names
 pub mod Held
 pub mod ReadMembers
 pub mod Written
+pub mod Usual

@@ -1,12 +1,25 @@
--- What the tokens of a text give, read one by one.
+-- What the bytes of a text give, read by the tokens that they write.
 use Rattle.std.specs.Prelude.{◌≡◌, ℕ, List, length, Option, Some, option_map}
 use Rattle.json.specs.Token.{Token}
 use Rattle.json.specs.Json.{value, members}
+use Rattle.json.specs.Lex.{lex, between, punctuate, fresh, after_comma, after_value}
 use Rattle.serde_json.specs.Data.{Data, Members, no_members, put}
 use Rattle.serde_json.specs.Find.{get_member}
 use Rattle.serde_json.specs.Read.{of_json, of_members, converted}
 use Rattle.recorder.specs.Reading.{source_in}
 use Rattle.recorder.specs.Clipped.{clip}
+
+-- the tokens of what is left of a text, after a bracket or a colon
+abbrev pub fresh_tokens : List ℕ → List Token
+fresh_tokens text = punctuate fresh (lex between text)
+
+-- after a comma, where a value or a key has to stand
+abbrev pub value_tokens : List ℕ → List Token
+value_tokens text = punctuate after_comma (lex between text)
+
+-- after a value
+abbrev pub later_tokens : List ℕ → List Token
+later_tokens text = punctuate after_value (lex between text)
 
 -- what is held of the source of an event
 abbrev pub clipped_source : Data → Option (Option ℕ)

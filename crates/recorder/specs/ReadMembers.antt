@@ -1,11 +1,11 @@
 -- What was read of the members of an event or of a recording, and what they are.
-use Rattle.std.specs.Prelude.{◌≡◌, ◌+◌, ℕ, List, Option, Some, None, codes, map, option_map}
+use Rattle.std.specs.Prelude.{◌≡◌, ◌+◌, ◌∷◌, [], ℕ, List, Option, Some, None, codes, map, option_map}
 use Rattle.serde_json.specs.Data.{Data, Members}
 use Rattle.serde_json.specs.Find.{as_str}
 use Rattle.recording.specs.declared.event.Event.{Event}
 use Rattle.recording.specs.declared.size.RecordingSize.{RecordingSize}
-use Rattle.recorder.specs.declared.tokens.events.Fields.{Fields}
-use Rattle.recorder.specs.declared.tokens.ReadMembers.{ReadMembers}
+use Rattle.recorder.specs.declared.plain.events.Fields.{Fields}
+use Rattle.recorder.specs.declared.plain.ReadMembers.{ReadMembers}
 use Rattle.recorder.specs.declared.reading.Parsed.{Parsed}
 use Rattle.recorder.specs.Text.{IsReadAs}
 use Rattle.recorder.specs.ParsedModel.{ParsedModel, model_of}
@@ -19,9 +19,15 @@ abbrev pub count_of : {A : Type 0} → Option A → ℕ
 count_of None = 0
 count_of (Some x) = 1
 
+-- the byte of a text of one byte
+abbrev pub single : List ℕ → Option ℕ
+single [] = None
+single (x ∷ []) = Some x
+single (x ∷ y ∷ ys) = None
+
 -- the members of an event have what was read, and nothing else
 pub record AreFields (f : Fields) (ms : Members) : Type 0 where
-  pub kind : AtKey as_str (codes "k") ms (option_map (λ s. s.now) f.k)
+  pub kind : AtKey as_str (codes "k") ms (option_map (λ k. k ∷ []) f.k)
   pub address : AtKey clipped_number (codes "a") ms f.a
   pub value_read : AtKey value_in (codes "r") ms f.r
   pub source : AtKey clipped_source (codes "s") ms f.s

@@ -1,23 +1,22 @@
 //! The items of a recording's lists, and what single JSON values give.
 
-ghost use Rattle.std.specs.Prelude.{◌≡◌, option_map};
+ghost use Rattle.std.specs.Prelude.{◌≡◌, option_map, option_and_then, codes};
 ghost use Rattle.serde_json.specs.View.{view};
 ghost use Rattle.recorder.specs.Reading.{at_key, count_members};
 ghost use Rattle.recorder.specs.Clipped.{clipped_event};
 ghost use Rattle.recorder.specs.Pulled.{clipped_source};
-ghost use Rattle.serde_json.specs.Find.{as_object};
+ghost use Rattle.recorder.specs.ReadMembers.{single};
+ghost use Rattle.serde_json.specs.Find.{as_object, as_str};
 
-use crate::tokens::events::{Fields, pull_event};
-use crate::tokens::values::{pull_number, pull_value};
+use crate::plain::events::{Fields, take_event};
+use crate::plain::values::{take_number, take_value};
 use crate::values::event_members;
 use crate::versions::has_failed;
-use crate::written::cursor::Cursor;
-use crate::written::events::take_event;
 use common::EventId;
-use json::Reader;
 use recording::{Event, RecordingSize};
 use serde_json::Value;
 use std::alloc::{AllocError, Global};
+use texts::Cursor;
 
 /// What the items of a list are.
 pub(crate) trait Kind {
@@ -25,8 +24,7 @@ pub(crate) trait Kind {
     ghost use Rattle.serde_json.specs.Data.{Data};
     ghost use Rattle.serde_json.specs.View.{view};
     ghost use Rattle.recording.specs.declared.size.RecordingSize.{RecordingSize};
-    ghost use Rattle.recorder.specs.Pulled.{GivesValue};
-    ghost use Rattle.recorder.specs.Written.{Begins};
+    ghost use Rattle.recorder.specs.Pulled.{GivesValue, value_tokens, later_tokens};
 
     /// An item.
     type Item: Drop;
@@ -46,13 +44,10 @@ pub(crate) trait Kind {
     /// What is held for lists.
     ghost holds_lists: { RecordingSize → List (List Self.Item) → List (List Self.Item) → Type 0 };
 
-    /// Takes the item that stands next in a text in the layout of `write_recording`.
+    /// Takes the item that stands next in a text.
     fn take(rest: &mut Cursor<'_>) -> Option<Self::Item>
-        ensures { IfSome result (λ x. Begins datum fits rest.old x rest.new) };
-
-    /// Reads the item that stands next among tokens.
-    fn pull(reader: &mut Reader<'_>) -> Option<Self::Item>
-        ensures { IfSome result (λ x. (depth : ℕ) → GivesValue held (suc depth) reader.old x reader.new) };
+        ensures { IfSome result (λ x. (depth : ℕ)
+            → GivesValue held (suc depth) (value_tokens rest.old) x (later_tokens rest.new)) };
 
     /// Holds an item more of a list.
     fn hold(
@@ -118,10 +113,6 @@ impl Kind for Events {
 
     fn take(rest: &mut Cursor<'_>) -> Option<Event> {
         take_event(rest)
-    }
-
-    fn pull(reader: &mut Reader<'_>) -> Option<Event> {
-        pull_event(reader)
     }
 
     /// Of those that are too many the first is held, or the last compare-and-swap that failed.
@@ -194,11 +185,7 @@ impl Kind for Numbers {
     ghost holds_lists = { HoldsLists };
 
     fn take(rest: &mut Cursor<'_>) -> Option<EventId> {
-        rest.word()
-    }
-
-    fn pull(reader: &mut Reader<'_>) -> Option<EventId> {
-        pull_number(reader)
+        take_number(rest)
     }
 
     fn hold(
@@ -259,11 +246,7 @@ impl Kind for Values {
     ghost holds_lists = { λ size held lists. held ≡ lists };
 
     fn take(rest: &mut Cursor<'_>) -> Option<u32> {
-        rest.word()
-    }
-
-    fn pull(reader: &mut Reader<'_>) -> Option<u32> {
-        pull_value(reader)
+        take_value(rest)
     }
 
     fn hold(found: &mut Vec<u32>, item: u32, _size: RecordingSize) -> Result<(), AllocError> {
@@ -327,13 +310,30 @@ pub(crate) fn keys_of(value: &Value) -> Option<usize>
     Some(members.len())
 }
 
+/// The byte of a text of one byte.
+fn letter_of(text: &str) -> Option<u8>
+    ensures { result ≡ single text.now }
+{
+    let bytes = text.as_bytes();
+    if bytes.len() == 1 {
+        return Some(bytes[0]);
+    }
+    None
+}
+
+/// The letter of an event's kind.
+fn letter_in(value: &Value) -> Option<u8>
+    ensures { result ≡ option_and_then single (at_key as_str (codes "k") (view value.now)) }
+{
+    letter_of(value.get("k")?.as_str()?)
+}
+
 fn event_in(value: &Value) -> Option<Event>
     ensures { result ≡ clipped_event (view value.now) }
 {
     let keys = keys_of(value)?;
-    let kind = value.get("k")?.as_str()?;
     let fields = Fields {
-        k: Some(kind),
+        k: letter_in(value),
         a: read_at::<Numbers>(value, "a"),
         r: read_at::<Values>(value, "r"),
         s: source_at(value, "s"),

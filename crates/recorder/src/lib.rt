@@ -2,12 +2,12 @@
 #![tactic(auto)]
 
 mod items;
+mod plain;
 mod reading;
+mod spaced;
 mod text;
-mod tokens;
 mod values;
 mod versions;
-mod written;
 
 pub use reading::{read_recording, read_recording_of};
 pub use recording::{Event, RecError, Recording, RecordingSize};

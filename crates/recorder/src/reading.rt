@@ -12,9 +12,8 @@ ghost use Rattle.recorder.specs.Text.{IsReadAs};
 ghost use Rattle.recorder.specs.Clipped.{clipped_shape};
 
 use crate::items::{Events, Kind, Numbers, Values, keys_of};
-use crate::tokens::{ReadMembers, parsed_by_tokens};
+use crate::plain::{ReadMembers, read_plain};
 use crate::versions::has_failed_cas;
-use crate::written::written;
 use common::EventId;
 use recording::{Event, RecError, Recording, RecordingSize};
 use serde_json::Value;
@@ -221,16 +220,10 @@ pub fn read_recording_of(
 ) -> Result<Recording, RecError>
     ensures { IsReadingOf size bytes.now result }
 {
-    let Ok(written) = written(alloc, bytes, size) else {
+    let Ok(plain) = read_plain(alloc, bytes, size) else {
         return Err(RecError::OutOfMemory);
     };
-    if let Some(found) = written {
-        return recording_of(alloc, found, size);
-    }
-    let Ok(parsed) = parsed_by_tokens(alloc, bytes, size) else {
-        return Err(RecError::OutOfMemory);
-    };
-    if let Some(found) = parsed {
+    if let Some(found) = plain {
         return recording_of(alloc, found, size);
     }
     match parsed_in_tree(alloc, bytes) {

@@ -1,17 +1,18 @@
-use Rattle.std.proofs.Common.{rules, sym, ◌∙◌, Some}
+use Rattle.std.proofs.Common.{rules, sym, ◌∙◌}
 use Rattle.serde_json.specs.View.{view}
-use Rattle.recorder.specs.declared.tokens.events.Fields.{Fields}
+use Rattle.recorder.specs.declared.plain.events.Fields.{Fields}
 use Rattle.recorder.proofs.EventFields.{event_given}
 use Rattle.recorder.proofs.items.event_in.Goals as goal
 
 pub returns : goal.returns
 returns c =
     let f : Fields = record {
-      k = Some c.in_ok-kind.kind;
+      k = c.letter_in.result;
       a = c.read_at.result;
       r = c.read_at-2.result;
       s = c.source_at.result;
       w = c.read_at-3.result;
     } in
-    c.event.ensures ∙ sym (event_given f c.in_ok-keys.keys (view c.args.value.now) (search rules) (search rules)
-    (sym c.read_at.ensures) (sym c.read_at-2.ensures) (sym c.source_at.ensures) (sym c.read_at-3.ensures))
+    c.event.ensures ∙ sym (event_given f c.in_ok-keys.keys (view c.args.value.now) (search rules)
+    (sym c.letter_in.ensures) (sym c.read_at.ensures) (sym c.read_at-2.ensures) (sym c.source_at.ensures)
+    (sym c.read_at-3.ensures))

@@ -4,13 +4,7 @@ use Rattle.recorder.proofs.reading.read_recording_of.Goals as goal
 pub returns-in-Some : goal.returns-in-Some
 returns-in-Some c =
     c.recording_of.ensures c.args.bytes.now
-    (found_is _ c.in-Ok.written c.in-Some.found c.in-Some.is c.in-Ok.ensures)
-
-pub returns-in-Some-parsed : goal.returns-in-Some-parsed
-returns-in-Some-parsed c =
-    c.recording_of-in-Some-parsed.ensures c.args.bytes.now
-    (found_is _ c.in-Ok-parsed_by_tokens.parsed c.in-Some-parsed.found
-    c.in-Some-parsed.is c.in-Ok-parsed_by_tokens.ensures)
+    (found_is _ c.in-Ok.plain c.in-Some.found c.in-Some.is c.in-Ok.ensures)
 
 pub returns-in-Ok-parsed_in_tree : goal.returns-in-Ok-parsed_in_tree
 returns-in-Ok-parsed_in_tree c =

@@ -1,0 +1,14 @@
+use Rattle.std.proofs.Common.{ap, List, subst, suc}
+use Rattle.json.specs.Token.{Token}
+use Rattle.json.specs.Lex.{punctuate, after_comma}
+use Rattle.recorder.specs.Clipped.{clipped_event}
+use Rattle.recorder.specs.Pulled.{GivesValue, later_tokens}
+use Rattle.recorder.proofs.UsualEvents.{usual_gives}
+use Rattle.recorder.proofs.plain.events.take_event.Goals as goal
+
+pub returns-in-Some : goal.returns-in-Some
+returns-in-Some c depth =
+    let later = later_tokens c.take_usual.new.rest in
+    subst (λ (ts : List Token). GivesValue clipped_event (suc depth) ts c.in-Some.event later)
+    (ap (punctuate after_comma) c.skip_one.ensures)
+    (usual_gives depth c.skip_one.new.rest c.take_usual.new.rest c.in-Some.event c.in-Some.ensures)

@@ -1,0 +1,123 @@
+//! Single JSON values of a recording, and keys, read from the bytes of its text. Where one is not in its simplest form,
+//! they answer nothing.
+
+ghost use Rattle.std.specs.Prelude.{◌≡◌, ◌++◌, ◌∷◌, [], ℕ, Some, IfSome, decimal};
+ghost use Rattle.json.specs.Token.{string};
+ghost use Rattle.json.specs.Json.{read_key};
+ghost use Rattle.json.specs.Lex.{token, lex, between};
+ghost use Rattle.serde_json.specs.Find.{as_str};
+ghost use Rattle.recorder.specs.Reading.{natural, value_word, value_in};
+ghost use Rattle.recorder.specs.Clipped.{clip, clipped_number};
+ghost use Rattle.recorder.specs.Pulled.{GivesValue, clipped_source};
+ghost use Rattle.recorder.specs.Pulled.{value_tokens, fresh_tokens, later_tokens};
+
+use crate::spaced::{ends_member, ends_word, skip_space, take_sign};
+use common::EventId;
+use texts::Cursor;
+
+/// The string of one letter.
+fn take_letter(rest: &mut Cursor<'_>) -> Option<u8>
+    ensures { IfSome result (λ x. lex between rest.old ≡ token (string (x ∷ [])) ∷ lex between rest.new) }
+{
+    skip_space(rest);
+    let bytes = rest.rest();
+    if bytes.len() < 3 || bytes[0] != b'"' || bytes[2] != b'"' {
+        return None;
+    }
+    let letter = bytes[1];
+    if letter < b' ' || letter == b'"' || letter == b'\\' {
+        return None;
+    }
+    *rest = Cursor::new(&bytes[3..]);
+    Some(letter)
+}
+
+/// The key of one letter, and its colon.
+pub(crate) fn take_key(rest: &mut Cursor<'_>) -> Option<u8>
+    ensures { IfSome result (λ x. read_key (value_tokens rest.old) ≡ Some (Some (x ∷ []), fresh_tokens rest.new)) }
+{
+    let letter = take_letter(rest)?;
+    if !take_sign(rest, b':') {
+        return None;
+    }
+    Some(letter)
+}
+
+/// The letter of a kind.
+pub(crate) fn take_kind(rest: &mut Cursor<'_>) -> Option<u8>
+    ensures { IfSome result (λ k. (depth : ℕ)
+        → GivesValue as_str depth (value_tokens rest.old) (k ∷ []) (later_tokens rest.new)) }
+{
+    let letter = take_letter(rest)?;
+    if !ends_member(rest) {
+        return None;
+    }
+    Some(letter)
+}
+
+/// The number that stands next, taken by a cursor of its own: its place is not written at each digit.
+pub(crate) fn take_digits(rest: &mut Cursor<'_>) -> Option<u64>
+    ensures { IfSome result (λ n. rest.old ≡ decimal n ++ rest.new) }
+{
+    let mut digits = Cursor::new(rest.rest());
+    let n = digits.number()?;
+    *rest = Cursor::new(digits.rest());
+    Some(n)
+}
+
+/// The natural number that digits alone write.
+pub(crate) fn take_natural(rest: &mut Cursor<'_>) -> Option<u64>
+    ensures { IfSome result (λ n. (depth : ℕ)
+        → GivesValue natural depth (value_tokens rest.old) n (later_tokens rest.new)) }
+{
+    skip_space(rest);
+    let n = take_digits(rest)?;
+    if !ends_word(rest) {
+        return None;
+    }
+    Some(n)
+}
+
+fn clipped(n: u64) -> u32
+    ensures { result ≡ clip n }
+{
+    u32::try_from(n).unwrap_or(u32::MAX)
+}
+
+/// The number of an event or of an address; the greatest of 32 bits where it is greater.
+pub(crate) fn take_number(rest: &mut Cursor<'_>) -> Option<u32>
+    ensures { IfSome result (λ n. (depth : ℕ)
+        → GivesValue clipped_number depth (value_tokens rest.old) n (later_tokens rest.new)) }
+{
+    Some(clipped(take_natural(rest)?))
+}
+
+fn word(n: u64) -> Option<u32>
+    ensures { result ≡ value_word n }
+{
+    u32::try_from(n).ok()
+}
+
+/// A value of 32 bits.
+pub(crate) fn take_value(rest: &mut Cursor<'_>) -> Option<u32>
+    ensures { IfSome result (λ n. (depth : ℕ)
+        → GivesValue value_in depth (value_tokens rest.old) n (later_tokens rest.new)) }
+{
+    word(take_natural(rest)?)
+}
+
+/// The source of a read.
+pub(crate) fn take_source(rest: &mut Cursor<'_>) -> Option<Option<EventId>>
+    ensures { IfSome result (λ s. (depth : ℕ)
+        → GivesValue clipped_source depth (value_tokens rest.old) s (later_tokens rest.new)) }
+{
+    skip_space(rest);
+    if rest.take(b"null") {
+        if ends_word(rest) {
+            return Some(None);
+        }
+        return None;
+    }
+    let source = take_number(rest)?;
+    Some(Some(source))
+}
