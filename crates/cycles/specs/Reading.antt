@@ -3,7 +3,7 @@ use Rattle.std.specs.Prelude.{◌+◌, ◌==◌, ◌++◌, ◌∷◌, ◌||◌, 
 use Rattle.std.specs.Prelude.{None, Result, Ok, Err, codes, drop, if◌then◌else◌, is_some, length, option_and_then}
 use Rattle.std.specs.Prelude.{option_map, slice_index}
 use Rattle.std.specs.Str.{bytes_eq}
-use Rattle.program.specs.Lines.{begins}
+use Rattle.texts.specs.Words.{begins}
 use Rattle.cycles.specs.declared.word.Letter.{Letter}
 use Rattle.cycles.specs.declared.word.Link.{Link}
 use Rattle.cycles.specs.declared.word.Link.TheVariants.{Rf, Fr, Co}

@@ -66,7 +66,7 @@ abbrev pub graph_heading : List ℕ
 graph_heading = codes "digraph recording {\n  node [shape=\"plaintext\"];\n  newrank=\"true\";\n"
     ++ codes "  top [shape=\"point\", style=\"invis\"];\n"
 
--- the lines of the nodes, and what puts them in their places
+-- the first lines, those of the nodes, and what puts them in their places
 unfoldable pub nodes_text : Execution → Names → List ℕ → Execution → Bool → LongAnswer → List ℕ
 nodes_text x names ks y ranked v = graph_heading ++ texts_below (cluster_text x names ks y ranked) (length x.cores)
     ++ top_line x ks ranked ++ ranks_text x ks v

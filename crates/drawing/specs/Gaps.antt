@@ -10,7 +10,7 @@ is_gap ks e = nat_lt (slice_index ks e.first + 1) (slice_index ks e.second)
 
 -- the line of n events that are left out before event f
 abbrev pub gap_line : ℕ → ℕ → List ℕ
-gap_line f n = codes "    g" ++ decimal f ++ codes " [label=\"" ++ decimal n ++ codes " left out\"];\n"
+gap_line f n = codes "    g" ++ decimal f ++ (codes " [label=\"" ++ (decimal n ++ codes " left out\"];\n"))
 
 -- the line of the events that are left out between the ends of an edge of program order, if there are any
 unfoldable pub gap_text : List ℕ → Option Edge → List ℕ
@@ -20,10 +20,10 @@ gap_text ks (Some e) = if is_gap ks e
 
 -- the line from event e to what is left out before event f
 abbrev pub gap_start : ℕ → ℕ → List ℕ
-gap_start e f = codes "  e" ++ decimal e ++ codes " -> g" ++ decimal f
-    ++ codes " [style=\"dotted\", arrowhead=\"none\"];\n"
+gap_start e f = codes "  e" ++ decimal e ++ (codes " -> g" ++ (decimal f
+    ++ codes " [style=\"dotted\", arrowhead=\"none\"];\n"))
 
 -- the line from what is left out before event f to that event
 abbrev pub gap_end : ℕ → List ℕ
-gap_end f = codes "  g" ++ decimal f ++ codes " -> e" ++ decimal f
-    ++ codes " [style=\"dotted\", arrowhead=\"none\"];\n"
+gap_end f = codes "  g" ++ decimal f ++ (codes " -> e" ++ (decimal f
+    ++ codes " [style=\"dotted\", arrowhead=\"none\"];\n"))

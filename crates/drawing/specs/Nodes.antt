@@ -16,7 +16,7 @@ first_on_core x ks c = find (λ k. core_of x k == c) ks
 
 -- the beginning of the line of an event
 abbrev pub node_heading : ℕ → List ℕ
-node_heading e = codes "    e" ++ decimal e ++ codes " [label=\"" ++ decimal e ++ codes ": "
+node_heading e = codes "    e" ++ (decimal e ++ (codes " [label=\"" ++ (decimal e ++ codes ": ")))
 
 -- a byte of a label, as a string of DOT has it
 abbrev pub escaped : ℕ → List ℕ
@@ -42,8 +42,8 @@ node_of_core x names ks y c i = if core_of x (slice_index ks i) == c then node_l
 
 -- the first lines of a core
 abbrev pub cluster_heading : ℕ → List ℕ
-cluster_heading c = codes "  subgraph cluster_" ++ decimal c ++ codes " {\n    label=\"core " ++ decimal c
-    ++ codes "\";\n"
+cluster_heading c = codes "  subgraph cluster_" ++ (decimal c ++ (codes " {\n    label=\"core " ++ (decimal c
+    ++ codes "\";\n")))
 
 -- the invisible node above the events of a core in a picture of a memory order
 abbrev pub head_line : Bool → ℕ → List ℕ

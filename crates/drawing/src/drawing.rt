@@ -1,12 +1,12 @@
 //! An order, an overlook or a cycle as a picture.
 
-ghost use Rattle.std.specs.Prelude.{◌≡◌, ◌++◌, OnOk, IfOk, codes, true};
-ghost use Rattle.std.specs.List.{flat_map};
+ghost use Rattle.std.specs.Prelude.{◌≡◌, ◌++◌, OnOk, IfOk};
 ghost use Rattle.long.specs.Answer.{IsWitness};
 ghost use Rattle.drawing.specs.Bold.{is_ranked};
-ghost use Rattle.drawing.specs.Drawing.{graph_heading, edge_line, nodes_text, drawing_text, IsDrawing};
+ghost use Rattle.drawing.specs.Drawing.{nodes_text, drawing_text, IsDrawing};
 
 use crate::bold::bold_edges;
+use crate::drawn::Drawn;
 use crate::edge_lines::{put_bold, put_thin};
 use crate::edges::Edge;
 use crate::nodes::put_clusters;
@@ -29,67 +29,43 @@ fn is_ranked(answer: &LongAnswer) -> bool
     }
 }
 
-/// Adds the first lines.
-fn put_heading(out: &mut Vec<u8>) -> Result<(), OutOfMemory>
-    ensures { OnOk result (out.new.items ≡ out.old.items ++ graph_heading) }
-{
-    put_text(
-        out,
-        b"digraph recording {\n  node [shape=\"plaintext\"];\n  newrank=\"true\";\n",
-    )?;
-    put_text(out, b"  top [shape=\"point\", style=\"invis\"];\n")
-}
-
-/// Adds the lines of the nodes, and what puts them in their places.
+/// Adds the first lines, those of the nodes, and what puts them in their places.
 fn put_picture_nodes(
     out: &mut Vec<u8>,
-    recording: &Recording,
-    names: &Names,
-    numbers: &[EventId],
-    rest: &Recording,
+    drawn: &Drawn<'_>,
     ranked: bool,
     answer: &LongAnswer,
 ) -> Result<(), OutOfMemory>
     ensures { OnOk result (out.new.items ≡ out.old.items
-        ++ nodes_text recording.now names.now numbers.now rest.now ranked answer.now) }
+        ++ nodes_text drawn.now.recording.now drawn.now.names.now drawn.now.numbers.now drawn.now.rest.now
+        ranked answer.now) }
 {
-    put_heading(out)?;
-    put_clusters(out, recording, names, numbers, rest, ranked)?;
-    put_top(out, recording, numbers, ranked)?;
-    put_ranks(out, recording, numbers, answer)
-}
-
-/// Adds the bold edges and the end.
-fn put_end(
-    out: &mut Vec<u8>,
-    numbers: &[EventId],
-    ranked: bool,
-    bold: &[Edge],
-) -> Result<(), OutOfMemory>
-    ensures { OnOk result (out.new.items ≡ out.old.items
-        ++ (flat_map (edge_line numbers.now ranked true) bold.now ++ codes "}\n")) }
-{
-    put_bold(out, numbers, ranked, bold)?;
-    put_text(out, b"}\n")
+    put_text(
+        out,
+        b"digraph recording {\n  node [shape=\"plaintext\"];\n  newrank=\"true\";\n  \
+          top [shape=\"point\", style=\"invis\"];\n",
+    )?;
+    put_clusters(out, drawn, ranked)?;
+    put_top(out, drawn.recording, drawn.numbers, ranked)?;
+    put_ranks(out, drawn.recording, drawn.numbers, answer)
 }
 
 /// Adds a picture with these edges bold.
 fn put_drawing(
     out: &mut Vec<u8>,
-    recording: &Recording,
-    names: &Names,
-    numbers: &[EventId],
-    rest: &Recording,
+    drawn: &Drawn<'_>,
     answer: &LongAnswer,
     bold: &[Edge],
 ) -> Result<(), OutOfMemory>
     ensures { OnOk result (out.new.items ≡ out.old.items
-        ++ drawing_text recording.now names.now numbers.now rest.now answer.now bold.now) }
+        ++ drawing_text drawn.now.recording.now drawn.now.names.now drawn.now.numbers.now drawn.now.rest.now
+        answer.now bold.now) }
 {
     let ranked = is_ranked(answer);
-    put_picture_nodes(out, recording, names, numbers, rest, ranked, answer)?;
-    put_thin(out, rest, numbers, ranked, bold)?;
-    put_end(out, numbers, ranked, bold)
+    put_picture_nodes(out, drawn, ranked, answer)?;
+    put_thin(out, drawn, ranked, bold)?;
+    put_bold(out, drawn.numbers, ranked, bold)?;
+    put_text(out, b"}\n")
 }
 
 /// An order, an overlook or a cycle of `rest`, as a directed graph in the DOT language of Graphviz: event i of `rest`
@@ -118,7 +94,13 @@ pub fn drawing_text(
         IsDrawing recording.now names.now numbers.now rest.now answer.now text.items) }
 {
     let bold = bold_edges(alloc, rest, answer)?;
+    let drawn = Drawn {
+        recording,
+        names,
+        numbers,
+        rest,
+    };
     let mut out = Vec::new(alloc);
-    put_drawing(&mut out, recording, names, numbers, rest, answer, &bold)?;
+    put_drawing(&mut out, &drawn, answer, &bold)?;
     Ok(out)
 }

@@ -3,62 +3,44 @@
 ghost use Rattle.std.specs.Prelude.{◌≡◌, ◌++◌, OnOk, true};
 ghost use Rattle.std.specs.List.{flat_map};
 ghost use Rattle.recording.specs.Execution.{event_count};
-ghost use Rattle.drawing.specs.Drawing.{ends_text, look_text, style_text, free_text, edge_line, thin_line};
+ghost use Rattle.drawing.specs.Drawing.{look_text, style_text, free_text, edge_line, thin_line};
 ghost use Rattle.drawing.specs.Drawing.{po_lines, thin_lines};
 ghost use Rattle.texts.specs.Below.{texts_below};
 
+use crate::drawn::Drawn;
 use crate::edges::{Edge, co_edge, fr_edge, is_drawn, po_edge, rf_edge};
 use crate::gaps::{is_gap, number_at, put_gap_edges};
 use common::{EventId, OutOfMemory};
-use recording::Recording;
 use relations::Reason;
-use texts::{put_text, put_text_and_number};
+use texts::Grow;
 
-/// Adds from which event an edge goes to which.
-fn put_ends(out: &mut Vec<u8>, numbers: &[EventId], edge: Edge) -> Result<(), OutOfMemory>
-    ensures { OnOk result (out.new.items ≡ out.old.items ++ ends_text numbers.now edge) }
-{
-    put_text_and_number(out, b"  e", number_at(numbers, edge.first) as usize)?;
-    put_text_and_number(out, b" -> e", number_at(numbers, edge.second) as usize)
-}
-
-/// Adds the name and the colour of an edge.
-fn put_look(out: &mut Vec<u8>, reason: Reason) -> Result<(), OutOfMemory>
-    ensures { OnOk result (out.new.items ≡ out.old.items ++ look_text reason) }
+/// The name and the colour of an edge.
+fn look(reason: Reason) -> &'static str
+    ensures { result.now ≡ look_text reason }
 {
     match reason {
-        Reason::Po => put_text(
-            out,
-            b" [xlabel=\"po\", color=\"black\", fontcolor=\"black\"",
-        ),
-        Reason::Wo => put_text(out, b" [xlabel=\"co\", color=\"blue\", fontcolor=\"blue\""),
-        Reason::Rf => put_text(out, b" [xlabel=\"rf\", color=\"red\", fontcolor=\"red\""),
-        Reason::Fr => put_text(
-            out,
-            b" [xlabel=\"fr\", color=\"#ffa040\", fontcolor=\"#ffa040\"",
-        ),
+        Reason::Po => " [xlabel=\"po\", color=\"black\", fontcolor=\"black\"",
+        Reason::Wo => " [xlabel=\"co\", color=\"blue\", fontcolor=\"blue\"",
+        Reason::Rf => " [xlabel=\"rf\", color=\"red\", fontcolor=\"red\"",
+        Reason::Fr => " [xlabel=\"fr\", color=\"#ffa040\", fontcolor=\"#ffa040\"",
     }
 }
 
-/// Adds how thick an edge is.
-fn put_style(out: &mut Vec<u8>, bold: bool) -> Result<(), OutOfMemory>
-    ensures { OnOk result (out.new.items ≡ out.old.items ++ style_text bold) }
+/// How thick an edge is.
+fn style(bold: bool) -> &'static str
+    ensures { result.now ≡ style_text bold }
 {
-    if bold {
-        put_text(out, b", style=\"bold\"")
-    } else {
-        Ok(())
-    }
+    if bold { ", style=\"bold\"" } else { "" }
 }
 
-/// Adds that an edge puts no event above another.
-fn put_free(out: &mut Vec<u8>, ranked: bool, reason: Reason) -> Result<(), OutOfMemory>
-    ensures { OnOk result (out.new.items ≡ out.old.items ++ free_text ranked reason) }
+/// That an edge puts no event above another.
+fn free(ranked: bool, reason: Reason) -> &'static str
+    ensures { result.now ≡ free_text ranked reason }
 {
     if ranked || reason != Reason::Po {
-        put_text(out, b", constraint=\"false\"")
+        ", constraint=\"false\""
     } else {
-        Ok(())
+        ""
     }
 }
 
@@ -73,11 +55,10 @@ fn put_edge_line(
 ) -> Result<(), OutOfMemory>
     ensures { OnOk result (out.new.items ≡ out.old.items ++ edge_line numbers.now ranked bold edge) }
 {
-    put_ends(out, numbers, edge)?;
-    put_look(out, edge.reason)?;
-    put_style(out, bold)?;
-    put_free(out, ranked, edge.reason)?;
-    put_text(out, b"];\n")
+    let first = number_at(numbers, edge.first);
+    let second = number_at(numbers, edge.second);
+    let (look, style, free) = (look(edge.reason), style(bold), free(ranked, edge.reason));
+    write!(out, "  e{first} -> e{second}{look}{style}{free}];\n")
 }
 
 /// Adds the line of an edge that is not drawn bold.
@@ -129,15 +110,15 @@ fn put_po_lines(
 /// Adds the lines of the edges of an event that are not drawn bold.
 fn put_thin_lines(
     out: &mut Vec<u8>,
-    rest: &Recording,
-    numbers: &[EventId],
+    drawn: &Drawn<'_>,
     ranked: bool,
     bold: &[Edge],
     event: EventId,
 ) -> Result<(), OutOfMemory>
     ensures { OnOk result (out.new.items ≡ out.old.items
-        ++ thin_lines rest.now numbers.now ranked bold.now event) }
+        ++ thin_lines drawn.now.rest.now drawn.now.numbers.now ranked bold.now event) }
 {
+    let Drawn { numbers, rest, .. } = *drawn;
     put_po_lines(out, numbers, ranked, bold, po_edge(rest, event))?;
     put_thin_line(out, numbers, ranked, bold, rf_edge(rest, event))?;
     put_thin_line(out, numbers, ranked, bold, co_edge(rest, event))?;
@@ -147,17 +128,17 @@ fn put_thin_lines(
 /// Adds the lines of all edges that are not drawn bold.
 pub(crate) fn put_thin(
     out: &mut Vec<u8>,
-    rest: &Recording,
-    numbers: &[EventId],
+    drawn: &Drawn<'_>,
     ranked: bool,
     bold: &[Edge],
 ) -> Result<(), OutOfMemory>
     ensures { OnOk result (out.new.items ≡ out.old.items
-        ++ texts_below (thin_lines rest.now numbers.now ranked bold.now) (event_count rest.now)) }
+        ++ texts_below (thin_lines drawn.now.rest.now drawn.now.numbers.now ranked bold.now)
+        (event_count drawn.now.rest.now)) }
 {
-    rest.sound();
-    for event in 0..rest.len() as EventId {
-        put_thin_lines(out, rest, numbers, ranked, bold, event)?;
+    drawn.rest.sound();
+    for event in 0..drawn.rest.len() as EventId {
+        put_thin_lines(out, drawn, ranked, bold, event)?;
     }
     Ok(())
 }

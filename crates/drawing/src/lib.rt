@@ -3,6 +3,7 @@
 
 mod bold;
 mod drawing;
+mod drawn;
 mod edge_lines;
 mod edges;
 mod gaps;

@@ -1,18 +1,19 @@
 //! The events of a picture, a cluster for each core that has a drawn event.
 
-ghost use Rattle.std.specs.Prelude.{◌≡◌, ◌++◌, ◌<◌, OnOk, length, slice_index};
+ghost use Rattle.std.specs.Prelude.{◌≡◌, ◌++◌, ◌<◌, OnOk, length};
 ghost use Rattle.std.specs.List.{flat_map};
-ghost use Rattle.recording.specs.Execution.{event_count, event_at};
+ghost use Rattle.recording.specs.Execution.{event_count};
 ghost use Rattle.texts.specs.Below.{texts_below};
-ghost use Rattle.drawing.specs.Nodes.{escaped, first_on_core, node_heading, node_label, node_line, node_lines};
-ghost use Rattle.drawing.specs.Nodes.{node_of_core, cluster_heading, head_line, cluster_lines, cluster_text};
+ghost use Rattle.drawing.specs.Nodes.{escaped, first_on_core, node_label, node_line};
+ghost use Rattle.drawing.specs.Nodes.{node_of_core, head_line, cluster_text};
 
+use crate::drawn::Drawn;
 use crate::edges::po_edge;
 use crate::gaps::{number_at, put_gap_text};
 use common::{EventId, OutOfMemory};
 use event_texts::{Names, event_of, put_event};
 use recording::{Event, Recording};
-use texts::{put_text, put_text_and_number};
+use texts::{Grow, put_text};
 
 /// The first of the numbers that is an event of a core.
 pub(crate) fn first_on_core(
@@ -26,15 +27,6 @@ pub(crate) fn first_on_core(
         .iter()
         .copied()
         .find(|number| event_of(recording, *number).0 as usize == core)
-}
-
-/// Adds the beginning of the line of an event.
-fn put_node_heading(out: &mut Vec<u8>, number: EventId) -> Result<(), OutOfMemory>
-    ensures { OnOk result (out.new.items ≡ out.old.items ++ node_heading number) }
-{
-    put_text_and_number(out, b"    e", number as usize)?;
-    put_text_and_number(out, b" [label=\"", number as usize)?;
-    put_text(out, b": ")
 }
 
 /// Adds a byte of a label, as a string of DOT has it.
@@ -84,7 +76,7 @@ fn put_node(
 ) -> Result<(), OutOfMemory>
     ensures { OnOk result (out.new.items ≡ out.old.items ++ node_line names.now number event.now) }
 {
-    put_node_heading(out, number)?;
+    write!(out, "    e{number} [label=\"{number}: ")?;
     put_event(out, names, event)?;
     put_node_label(out, names.label(number))?;
     put_text(out, b"\"];\n")
@@ -94,52 +86,35 @@ fn put_node(
 #[tactic(auto, unfolding(crate::specs::Nodes::node_of_core))]
 fn put_node_of_core(
     out: &mut Vec<u8>,
-    recording: &Recording,
-    names: &Names,
-    numbers: &[EventId],
-    rest: &Recording,
+    drawn: &Drawn<'_>,
     core: usize,
     i: EventId,
 ) -> Result<(), OutOfMemory>
     ensures { OnOk result (out.new.items ≡ out.old.items
-        ++ node_of_core recording.now names.now numbers.now rest.now core i) }
+        ++ node_of_core drawn.now.recording.now drawn.now.names.now drawn.now.numbers.now drawn.now.rest.now
+        core i) }
 {
-    let number = number_at(numbers, i);
-    let (own, event) = event_of(recording, number);
+    let number = number_at(drawn.numbers, i);
+    let (own, event) = event_of(drawn.recording, number);
     if own as usize != core {
         return Ok(());
     }
-    put_node(out, names, number, &event)?;
-    put_gap_text(out, numbers, po_edge(rest, i))
+    put_node(out, drawn.names, number, &event)?;
+    put_gap_text(out, drawn.numbers, po_edge(drawn.rest, i))
 }
 
 /// Adds the lines of the events of a core.
-fn put_nodes(
-    out: &mut Vec<u8>,
-    recording: &Recording,
-    names: &Names,
-    numbers: &[EventId],
-    rest: &Recording,
-    core: usize,
-) -> Result<(), OutOfMemory>
+fn put_nodes(out: &mut Vec<u8>, drawn: &Drawn<'_>, core: usize) -> Result<(), OutOfMemory>
     ensures { OnOk result (out.new.items ≡ out.old.items
-        ++ texts_below (node_of_core recording.now names.now numbers.now rest.now core)
-        (event_count rest.now)) }
+        ++ texts_below (node_of_core drawn.now.recording.now drawn.now.names.now drawn.now.numbers.now
+        drawn.now.rest.now core)
+        (event_count drawn.now.rest.now)) }
 {
-    rest.sound();
-    for i in 0..rest.len() as EventId {
-        put_node_of_core(out, recording, names, numbers, rest, core, i)?;
+    drawn.rest.sound();
+    for i in 0..drawn.rest.len() as EventId {
+        put_node_of_core(out, drawn, core, i)?;
     }
     Ok(())
-}
-
-/// Adds the first lines of a core.
-fn put_cluster_heading(out: &mut Vec<u8>, core: usize) -> Result<(), OutOfMemory>
-    ensures { OnOk result (out.new.items ≡ out.old.items ++ cluster_heading core) }
-{
-    put_text_and_number(out, b"  subgraph cluster_", core)?;
-    put_text_and_number(out, b" {\n    label=\"core ", core)?;
-    put_text(out, b"\";\n")
 }
 
 /// Adds the invisible node above the events of a core, in a picture of a memory order.
@@ -147,68 +122,49 @@ fn put_head(out: &mut Vec<u8>, ranked: bool, core: usize) -> Result<(), OutOfMem
     ensures { OnOk result (out.new.items ≡ out.old.items ++ head_line ranked core) }
 {
     if ranked {
-        put_text_and_number(out, b"    h", core)?;
-        put_text(out, b" [shape=\"point\", style=\"invis\"];\n")
+        write!(out, "    h{core} [shape=\"point\", style=\"invis\"];\n")
     } else {
         Ok(())
     }
 }
 
-/// Adds the lines of a core.
-fn put_cluster_lines(
-    out: &mut Vec<u8>,
-    recording: &Recording,
-    names: &Names,
-    numbers: &[EventId],
-    rest: &Recording,
-    ranked: bool,
-    core: usize,
-) -> Result<(), OutOfMemory>
-    ensures { OnOk result (out.new.items ≡ out.old.items
-        ++ cluster_lines recording.now names.now numbers.now rest.now ranked core) }
-{
-    put_cluster_heading(out, core)?;
-    put_head(out, ranked, core)?;
-    put_nodes(out, recording, names, numbers, rest, core)?;
-    put_text(out, b"  }\n")
-}
-
-/// Adds the lines of a core that has a drawn event.
+/// Adds the lines of a core, if it has a drawn event.
 #[tactic(auto, unfolding(crate::specs::Nodes::cluster_text))]
 fn put_cluster(
     out: &mut Vec<u8>,
-    recording: &Recording,
-    names: &Names,
-    numbers: &[EventId],
-    rest: &Recording,
+    drawn: &Drawn<'_>,
     ranked: bool,
     core: usize,
 ) -> Result<(), OutOfMemory>
     ensures { OnOk result (out.new.items ≡ out.old.items
-        ++ cluster_text recording.now names.now numbers.now rest.now ranked core) }
+        ++ cluster_text drawn.now.recording.now drawn.now.names.now drawn.now.numbers.now drawn.now.rest.now
+        ranked core) }
 {
-    if first_on_core(recording, numbers, core).is_some() {
-        put_cluster_lines(out, recording, names, numbers, rest, ranked, core)
-    } else {
-        Ok(())
+    if first_on_core(drawn.recording, drawn.numbers, core).is_none() {
+        return Ok(());
     }
+    write!(
+        out,
+        "  subgraph cluster_{core} {{\n    label=\"core {core}\";\n"
+    )?;
+    put_head(out, ranked, core)?;
+    put_nodes(out, drawn, core)?;
+    put_text(out, b"  }\n")
 }
 
 /// Adds the lines of each core that has a drawn event.
 pub(crate) fn put_clusters(
     out: &mut Vec<u8>,
-    recording: &Recording,
-    names: &Names,
-    numbers: &[EventId],
-    rest: &Recording,
+    drawn: &Drawn<'_>,
     ranked: bool,
 ) -> Result<(), OutOfMemory>
     ensures { OnOk result (out.new.items ≡ out.old.items
-        ++ texts_below (cluster_text recording.now names.now numbers.now rest.now ranked)
-        (length recording.now.cores)) }
+        ++ texts_below (cluster_text drawn.now.recording.now drawn.now.names.now drawn.now.numbers.now
+        drawn.now.rest.now ranked)
+        (length drawn.now.recording.now.cores)) }
 {
-    for core in 0..recording.cores().len() {
-        put_cluster(out, recording, names, numbers, rest, ranked, core)?;
+    for core in 0..drawn.recording.cores().len() {
+        put_cluster(out, drawn, ranked, core)?;
     }
     Ok(())
 }

@@ -2,7 +2,7 @@
 
 ghost use Rattle.std.specs.Prelude.{◌≡◌, ◌++◌, ◌∷◌, OnOk, Some, codes, decimal};
 ghost use Rattle.recording.specs.declared.event.Event.TheVariants.{L, S, R, C};
-ghost use Rattle.event_texts.specs.Events.{address_text, written_text, source_text, read_text, event_text};
+ghost use Rattle.event_texts.specs.Events.{address_text, source_text, read_text, event_text};
 
 use crate::names::Names;
 use common::{Addr, EventId, OutOfMemory};
@@ -10,26 +10,12 @@ use recording::Event;
 use texts::{put_text, put_text_and_number};
 
 /// Adds the name of an address; past the last name the letter a and its number.
-pub fn put_address(out: &mut Vec<u8>, names: &Names, address: Addr) -> Result<(), OutOfMemory>
+fn put_address(out: &mut Vec<u8>, names: &Names, address: Addr) -> Result<(), OutOfMemory>
     ensures { OnOk result (out.new.items ≡ out.old.items ++ address_text names.now address) }
 {
     match names.name(address) {
         Some(name) => put_text(out, name.text()),
         None => put_text_and_number(out, b"a", address as usize),
-    }
-}
-
-/// Adds the name of the address that an event writes.
-pub fn put_written(
-    out: &mut Vec<u8>,
-    names: &Names,
-    address: Option<Addr>,
-) -> Result<(), OutOfMemory>
-    ensures { OnOk result (out.new.items ≡ out.old.items ++ written_text names.now address) }
-{
-    match address {
-        Some(address) => put_address(out, names, address),
-        None => Ok(()),
     }
 }
 

@@ -1,6 +1,6 @@
 //! The lines of events.
 
-ghost use Rattle.std.specs.Prelude.{◌≡◌, ◌++◌, OnOk, codes, decimal};
+ghost use Rattle.std.specs.Prelude.{◌≡◌, ◌++◌, OnOk};
 ghost use Rattle.recording.specs.Execution.{event_at, core_of};
 ghost use Rattle.texts.specs.Numbers.{aligned};
 ghost use Rattle.event_texts.specs.Events.{event_width, core_width, event_line, indent, label_text};
@@ -9,7 +9,7 @@ use crate::events::put_event;
 use crate::names::Names;
 use common::{CoreId, EventId, OutOfMemory};
 use recording::{Event, Recording};
-use texts::{digits, put_aligned, put_spaces, put_text, put_text_and_number};
+use texts::{digits, put_aligned, put_spaces, put_text};
 
 /// How many digits the greatest number of an event has.
 fn event_width(recording: &Recording) -> usize
@@ -75,11 +75,4 @@ pub fn put_indent(out: &mut Vec<u8>, recording: &Recording) -> Result<(), OutOfM
 {
     put_spaces(out, event_width(recording))?;
     put_text(out, b"    ")
-}
-
-/// Adds which event it comes before.
-pub fn put_before(out: &mut Vec<u8>, number: EventId) -> Result<(), OutOfMemory>
-    ensures { OnOk result (out.new.items ≡ out.old.items ++ (codes "before " ++ decimal number)) }
-{
-    put_text_and_number(out, b"before ", number as usize)
 }

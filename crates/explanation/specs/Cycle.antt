@@ -1,5 +1,5 @@
 -- A cycle in words: each of its events, and why it comes before the next.
-use Rattle.std.specs.Prelude.{◌≡◌, ◌++◌, ◌∷◌, [], ℕ, zero, suc, List, Some, codes, decimal, length}
+use Rattle.std.specs.Prelude.{◌≡◌, ◌++◌, [], ℕ, zero, suc, List, Some, codes, decimal, length}
 use Rattle.std.specs.Prelude.{slice_index}
 use Rattle.event_texts.specs.Names.{Names}
 use Rattle.recording.specs.Event.{written_address}
@@ -11,17 +11,17 @@ use Rattle.relations.specs.Cycle.{next_in_cycle}
 use Rattle.explanation.specs.Diy.{IsDiyLine}
 use Rattle.event_texts.specs.Events.{event_line, indent, written_text}
 
--- why an event comes before another, which writes this address
+-- the end of a line that says why an event comes before another, which writes this address
 abbrev pub reason_text : Reason → List ℕ → List ℕ
-reason_text Po address = codes " in program order"
-reason_text Wo address = codes " in the write list of " ++ address
-reason_text Rf address = codes ", which read it"
-reason_text Fr address = codes ", which wrote a newer value of " ++ address
+reason_text Po address = codes " in program order\n"
+reason_text Wo address = codes " in the write list of " ++ (address ++ codes "\n")
+reason_text Rf address = codes ", which read it\n"
+reason_text Fr address = codes ", which wrote a newer value of " ++ (address ++ codes "\n")
 
 -- the line that says why an event comes before event f
 unfoldable pub reason_line : Execution → Names → ℕ → Reason → List ℕ
-reason_line x names f reason = indent x ++ (codes "before " ++ decimal f)
-    ++ reason_text reason (written_text names (written_address (event_at x f))) ++ 10 ∷ []
+reason_line x names f reason = indent x ++ (codes "before " ++ (decimal f
+    ++ reason_text reason (written_text names (written_address (event_at x f)))))
 
 -- the lines of an event that comes before f, with the first reason that holds
 pub record IsLink (x : Execution) (names : Names) (e f : ℕ) (text : List ℕ) : Type 0 where
@@ -38,7 +38,7 @@ AreLinks x names c (suc i) text = (before link : List ℕ) × AreLinks x names c
 -- what is said first of a cycle of n events
 abbrev pub cycle_heading : ℕ → List ℕ
 cycle_heading n = codes "No memory order explains this recording: these " ++ decimal n
-    ++ (codes " events would each come before the next." ++ 10 ∷ [])
+    ++ codes " events would each come before the next.\n"
 
 -- a cycle in words, and in those of diy
 pub record SaysCycle (x : Execution) (names : Names) (c text : List ℕ) : Type 0 where

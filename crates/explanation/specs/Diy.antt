@@ -181,7 +181,7 @@ overlook_end _ _ = 10 ∷ []
 -- the words of a load that overlooks a store
 abbrev pub overlook_words : Access → Access → List ℕ
 overlook_words load store =
-    codes "In diy's words: Pos" ++ letters store ++ letters load ++ codes " Fri" ++ overlook_end load store
+    codes "In diy's words: Pos" ++ (letters store ++ (letters load ++ (codes " Fri" ++ overlook_end load store)))
 
 -- the line of a load that overlooks a store, if both have words
 unfoldable pub diy_overlook_line : Event → Event → List ℕ

@@ -9,27 +9,28 @@ use Rattle.recording.specs.Execution.{Execution, event_at, write_list}
 use Rattle.recording.specs.Order.{place}
 use Rattle.event_texts.specs.Events.{event_line, indent, address_text}
 
--- where the write of a value stands in the order m: before the event, or after it, and then the value was
--- forwarded
+-- the end of a line that says where the write of a value stands in the order m: before the event, or after
+-- it, and then the value was forwarded
 unfoldable pub source_words : List ℕ → ℕ → List ℕ → Option ℕ → List ℕ
-source_words m e address None = codes "no write of " ++ address ++ codes " is before it"
+source_words m e address None = codes "no write of " ++ (address ++ codes " is before it\n")
 source_words m e address (Some s) = if nat_lt (place m s) (place m e)
-    then decimal s ++ codes " is the last write of " ++ address ++ codes " before it"
-    else codes "forwarded from its core's store buffer, which " ++ decimal s ++ codes " leaves later"
+    then decimal s ++ (codes " is the last write of " ++ (address ++ codes " before it\n"))
+    else codes "forwarded from its core's store buffer, which " ++ (decimal s ++ codes " leaves later\n")
 
 -- the line that says why an event reads its value of an address
 abbrev pub read_line : Execution → Names → List ℕ → ℕ → ℕ → Option ℕ → List ℕ
-read_line x names m e a s = indent x ++ source_words m e (address_text names a) s ++ 10 ∷ []
+read_line x names m e a s = indent x ++ source_words m e (address_text names a) s
 
--- what stands before an event in the write list of an address
+-- the end of a line that says what stands before an event in the write list of an address
 unfoldable pub write_words : List ℕ → ℕ → List ℕ → List ℕ
 write_words list e address = if place list e == 0
-    then codes "the first write of " ++ address
-    else codes "the next write of " ++ address ++ (codes " after " ++ decimal (slice_index list (place list e - 1)))
+    then codes "the first write of " ++ (address ++ codes "\n")
+    else codes "the next write of " ++ (address ++ (codes " after "
+    ++ (decimal (slice_index list (place list e - 1)) ++ codes "\n")))
 
 -- the line that says where an event stands among the writes of an address
 abbrev pub write_line : Execution → Names → ℕ → ℕ → List ℕ
-write_line x names e a = indent x ++ write_words (write_list x a) e (address_text names a) ++ 10 ∷ []
+write_line x names e a = indent x ++ write_words (write_list x a) e (address_text names a)
 
 -- the lines that say what makes the place of an event lawful
 unfoldable pub lawful_lines : Execution → Names → List ℕ → ℕ → Event → List ℕ

@@ -1,49 +1,44 @@
 //! A cycle in words.
 
-ghost use Rattle.std.specs.Prelude.{◌≡◌, ◌++◌, OnOk};
-ghost use Rattle.explanation.specs.Cycle.{cycle_heading};
-
 use crate::diy::put_diy;
 use crate::named::Named;
-use common::{Addr, EventId, OutOfMemory};
-use event_texts::{put_before, put_indent, put_line, put_written};
+use common::{EventId, OutOfMemory};
+use event_texts::{put_indent, put_line};
 use relations::{Places, Reason, next_in_cycle};
 use std::alloc::Global;
-use texts::{put_text, put_text_and_number};
+use texts::Grow;
 
 impl<'a> Named<'a> {
     ghost use Rattle.std.specs.Prelude.{◌≡◌, ◌++◌, ℕ, List, OnOk, Some, length};
     ghost use Rattle.relations.specs.Cycle.{IsCycle};
     ghost use Rattle.relations.specs.Forced.{Forced, IsReason};
-    ghost use Rattle.event_texts.specs.Events.{written_text};
-    ghost use Rattle.explanation.specs.Cycle.{reason_text, IsLink, AreLinks, SaysCycle};
+    ghost use Rattle.explanation.specs.Cycle.{reason_line, IsLink, AreLinks, SaysCycle};
 
-    /// Adds why an event comes before another, which writes this address.
-    fn put_reason(
+    /// Adds the line that says why an event comes before another.
+    #[tactic(auto, unfolding(crate::specs::Cycle::reason_line))]
+    fn put_reason_line(
         &self,
         out: &mut Vec<u8>,
+        second: EventId,
         reason: Reason,
-        address: Option<Addr>,
     ) -> Result<(), OutOfMemory>
         ensures { OnOk result (out.new.items ≡ out.old.items
-            ++ reason_text reason (written_text self.now.names.now address)) }
+            ++ reason_line self.now.recording.now self.now.names.now second reason) }
     {
+        put_indent(out, self.recording)?;
+        let address = self.names.written(self.recording.written_address(second));
         match reason {
-            Reason::Po => { put_text(out, b" in program order") }
-            Reason::Wo => {
-                put_text(out, b" in the write list of ")?;
-                put_written(out, self.names, address)
-            }
-            Reason::Rf => { put_text(out, b", which read it") }
-            Reason::Fr => {
-                put_text(out, b", which wrote a newer value of ")?;
-                put_written(out, self.names, address)
-            }
+            Reason::Po => write!(out, "before {second} in program order\n"),
+            Reason::Wo => write!(out, "before {second} in the write list of {address}\n"),
+            Reason::Rf => write!(out, "before {second}, which read it\n"),
+            Reason::Fr => write!(
+                out,
+                "before {second}, which wrote a newer value of {address}\n"
+            ),
         }
     }
 
     /// Adds the lines of an event that comes before another for this reason.
-    #[tactic(auto, unfolding(crate::specs::Cycle::reason_line))]
     fn put_link(
         &self,
         out: &mut Vec<u8>,
@@ -57,10 +52,7 @@ impl<'a> Named<'a> {
             × (out.new.items ≡ out.old.items ++ link)) }
     {
         put_line(out, self.recording, self.names, first)?;
-        put_indent(out, self.recording)?;
-        put_before(out, second)?;
-        self.put_reason(out, reason, self.recording.written_address(second))?;
-        put_text(out, b"\n")
+        self.put_reason_line(out, second, reason)
     }
 
     /// Adds the lines of each event of a cycle.
@@ -96,21 +88,13 @@ impl<'a> Named<'a> {
             × SaysCycle self.now.recording.now self.now.names.now cycle.now text
             × (out.new.items ≡ out.old.items ++ text)) }
     {
-        put_heading(out, cycle.len())?;
+        let count = cycle.len();
+        write!(
+            out,
+            "No memory order explains this recording: these {count} events would each come before the next.\n"
+        )?;
         let places = Places::of(alloc, self.recording)?;
         self.put_links(out, &places, cycle)?;
         put_diy(out, alloc, self.recording, &places, cycle)
     }
-}
-
-/// Adds what is said first of a cycle of this many events.
-fn put_heading(out: &mut Vec<u8>, count: usize) -> Result<(), OutOfMemory>
-    ensures { OnOk result (out.new.items ≡ out.old.items ++ cycle_heading count) }
-{
-    put_text_and_number(
-        out,
-        b"No memory order explains this recording: these ",
-        count,
-    )?;
-    put_text(out, b" events would each come before the next.\n")
 }

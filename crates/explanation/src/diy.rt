@@ -5,7 +5,7 @@ ghost use Rattle.std.specs.Prelude.{option_map, string_bytes};
 ghost use Rattle.std.specs.List.{flat_map, list_all};
 ghost use Rattle.recording.specs.Execution.{event_at};
 ghost use Rattle.explanation.specs.Diy.{IsDiyLine, IsStep, AreWordSteps, accesses, accessed, classic_of};
-ghost use Rattle.explanation.specs.Diy.{access_of, has_word, is_fence, letters, named_by, overlook_end, overlook_words};
+ghost use Rattle.explanation.specs.Diy.{access_of, has_word, is_fence, letters, named_by, overlook_end};
 ghost use Rattle.explanation.specs.Diy.{pair_text, side_text, told_from, word};
 ghost use Rattle.explanation.specs.Diy.{IsNamedAfter, words_from, diy_line, diy_overlook_line};
 
@@ -14,7 +14,7 @@ use event_texts::event_of;
 use recording::{Event, Recording};
 use relations::{Places, Reason, next_in_cycle};
 use std::alloc::Global;
-use texts::put_text;
+use texts::{Grow, put_text};
 
 /// What diy's words call an access.
 #[derive(Clone, Copy)]
@@ -292,10 +292,7 @@ fn put_named(
     let Some(name) = classic_of(words.as_str()) else {
         return Ok(false);
     };
-    put_text(out, words.as_bytes())?;
-    put_text(out, b" (")?;
-    put_text(out, name.as_bytes())?;
-    put_text(out, b")")?;
+    write!(out, "{words} ({name})")?;
     Ok(true)
 }
 
@@ -342,41 +339,16 @@ pub(crate) fn put_diy(
 }
 
 /// The end of the line of a load that overlooks a store, with the name of the classic test where both are plain.
-fn overlook_end(load: Access, store: Access) -> &'static [u8]
+fn overlook_end(load: Access, store: Access) -> &'static str
     ensures { result.now ≡ overlook_end load store }
 {
     match load {
         Access::Load => match store {
-            Access::Store => b" (CoWR)\n",
-            Access::Load | Access::Atomic => b"\n",
+            Access::Store => " (CoWR)\n",
+            Access::Load | Access::Atomic => "\n",
         },
-        Access::Store | Access::Atomic => b"\n",
+        Access::Store | Access::Atomic => "\n",
     }
-}
-
-/// Adds the letters of an access.
-fn put_letters(out: &mut Vec<u8>, access: Access) -> Result<(), OutOfMemory>
-    ensures { OnOk result (out.new.items ≡ out.old.items ++ letters access) }
-{
-    put_text(out, letters(access).as_bytes())
-}
-
-/// Adds the end of the line of a load that overlooks a store.
-fn put_end(out: &mut Vec<u8>, load: Access, store: Access) -> Result<(), OutOfMemory>
-    ensures { OnOk result (out.new.items ≡ out.old.items ++ overlook_end load store) }
-{
-    put_text(out, overlook_end(load, store))
-}
-
-/// Adds the words of a load that overlooks a store.
-fn put_overlook(out: &mut Vec<u8>, load: Access, store: Access) -> Result<(), OutOfMemory>
-    ensures { OnOk result (out.new.items ≡ out.old.items ++ overlook_words load store) }
-{
-    put_text(out, b"In diy's words: Pos")?;
-    put_letters(out, store)?;
-    put_letters(out, load)?;
-    put_text(out, b" Fri")?;
-    put_end(out, load, store)
 }
 
 /// Adds the line of a load that overlooks a store, if both have words.
@@ -391,5 +363,7 @@ pub(crate) fn put_overlook_line(
     if !has_word(load) || !has_word(store) {
         return Ok(());
     }
-    put_overlook(out, access_of(load), access_of(store))
+    let (load, store) = (access_of(load), access_of(store));
+    let (second, first, end) = (letters(load), letters(store), overlook_end(load, store));
+    write!(out, "In diy's words: Pos{first}{second} Fri{end}")
 }

@@ -1,54 +1,20 @@
 //! A memory order in words.
 
 use crate::named::Named;
-use crate::placed::{PlacedOrder, place_in_list};
+use crate::placed::{PlacedOrder, place_in_list, write_at};
 use common::{Addr, EventId, OutOfMemory};
-use event_texts::{event_of, put_address, put_indent, put_line};
+use event_texts::{event_of, put_indent, put_line};
 use recording::Event;
 use relations::Places;
 use std::alloc::Global;
-use texts::{put_number, put_text, put_text_and_number};
+use texts::{Grow, put_text};
 
 impl<'a> Named<'a> {
-    ghost use Rattle.std.specs.Prelude.{◌≡◌, ◌++◌, OnOk, codes, decimal};
-    ghost use Rattle.recording.specs.Execution.{write_list};
-    ghost use Rattle.event_texts.specs.Events.{address_text};
-    ghost use Rattle.explanation.specs.Order.{source_words, read_line, write_words, write_line};
-    ghost use Rattle.explanation.specs.Order.{lawful_lines, placed_lines, order_text};
-
-    /// Adds where the write of a value stands in the order.
-    #[tactic(auto, unfolding(crate::specs::Order::source_words))]
-    fn put_source(
-        &self,
-        out: &mut Vec<u8>,
-        order: &PlacedOrder<'_>,
-        number: EventId,
-        address: Addr,
-        source: Option<EventId>,
-    ) -> Result<(), OutOfMemory>
-        ensures { OnOk result (out.new.items ≡ out.old.items
-            ++ source_words order.now number (address_text self.now.names.now address) source) }
-    {
-        let Some(source) = source else {
-            put_text(out, b"no write of ")?;
-            put_address(out, self.names, address)?;
-            return put_text(out, b" is before it");
-        };
-        if order.place(source) < order.place(number) {
-            put_number(out, source as usize)?;
-            put_text(out, b" is the last write of ")?;
-            put_address(out, self.names, address)?;
-            return put_text(out, b" before it");
-        }
-        put_text_and_number(
-            out,
-            b"forwarded from its core's store buffer, which ",
-            source as usize,
-        )?;
-        put_text(out, b" leaves later")
-    }
+    ghost use Rattle.std.specs.Prelude.{◌≡◌, ◌++◌, OnOk};
+    ghost use Rattle.explanation.specs.Order.{read_line, write_line, lawful_lines, placed_lines, order_text};
 
     /// Adds the line that says why an event reads its value of an address.
+    #[tactic(auto, unfolding(crate::specs::Order::source_words))]
     fn put_read_line(
         &self,
         out: &mut Vec<u8>,
@@ -61,48 +27,21 @@ impl<'a> Named<'a> {
             ++ read_line self.now.recording.now self.now.names.now order.now number address source) }
     {
         put_indent(out, self.recording)?;
-        self.put_source(out, order, number, address, source)?;
-        put_text(out, b"\n")
-    }
-
-    /// Adds after which write of an address the next one stands.
-    fn put_next(
-        &self,
-        out: &mut Vec<u8>,
-        address: Addr,
-        earlier: EventId,
-    ) -> Result<(), OutOfMemory>
-        ensures { OnOk result (out.new.items ≡ out.old.items ++ (codes "the next write of "
-            ++ address_text self.now.names.now address ++ (codes " after " ++ decimal earlier))) }
-    {
-        put_text(out, b"the next write of ")?;
-        put_address(out, self.names, address)?;
-        put_text_and_number(out, b" after ", earlier as usize)
-    }
-
-    /// Adds what stands before an event in the write list of an address, in which it stands.
-    #[tactic(auto, unfolding(crate::specs::Order::write_words))]
-    fn put_write(
-        &self,
-        out: &mut Vec<u8>,
-        places: &Places<'_>,
-        number: EventId,
-        address: Addr,
-    ) -> Result<(), OutOfMemory>
-        ensures { OnOk result (out.new.items ≡ out.old.items
-            ++ write_words (write_list places.now address) number (address_text self.now.names.now address)) }
-    {
-        let at = place_in_list(places, address, number);
-        if at == 0 {
-            put_text(out, b"the first write of ")?;
-            return put_address(out, self.names, address);
+        let address = self.names.address(address);
+        let Some(source) = source else {
+            return write!(out, "no write of {address} is before it\n");
+        };
+        if order.place(source) < order.place(number) {
+            return write!(out, "{source} is the last write of {address} before it\n");
         }
-        let list = places.write_list(address);
-        let earlier = list.get(at - 1).copied().unwrap_or(0);
-        self.put_next(out, address, earlier)
+        write!(
+            out,
+            "forwarded from its core's store buffer, which {source} leaves later\n"
+        )
     }
 
     /// Adds the line that says where an event stands among the writes of an address.
+    #[tactic(auto, unfolding(crate::specs::Order::write_words))]
     fn put_write_line(
         &self,
         out: &mut Vec<u8>,
@@ -115,8 +54,13 @@ impl<'a> Named<'a> {
             ++ write_line self.now.recording.now self.now.names.now number address) }
     {
         put_indent(out, self.recording)?;
-        self.put_write(out, places, number, address)?;
-        put_text(out, b"\n")
+        let at = place_in_list(places, address, number);
+        let name = self.names.address(address);
+        if at == 0 {
+            return write!(out, "the first write of {name}\n");
+        }
+        let earlier = write_at(places, address, at - 1);
+        write!(out, "the next write of {name} after {earlier}\n")
     }
 
     /// Adds the lines that say what makes the place of an event lawful.

@@ -1,13 +1,10 @@
 //! An overlook in words.
 
-ghost use Rattle.std.specs.Prelude.{◌≡◌, ◌++◌, OnOk};
-ghost use Rattle.explanation.specs.Overlook.{overlook_heading};
-
 use crate::diy::put_overlook_line;
 use crate::named::Named;
 use common::{Addr, EventId, OutOfMemory};
-use event_texts::{event_of, put_before, put_indent, put_line, put_written};
-use texts::{put_text, put_text_and_number};
+use event_texts::{event_of, put_indent, put_line};
+use texts::Grow;
 
 impl<'a> Named<'a> {
     ghost use Rattle.std.specs.Prelude.{◌≡◌, ◌++◌, OnOk};
@@ -25,15 +22,17 @@ impl<'a> Named<'a> {
             self.now.names.now (written_text self.now.names.now address) source) }
     {
         put_indent(out, self.recording)?;
+        let address = self.names.written(address);
         let Some(source) = source else {
-            put_text(out, b"the initial value is older than each write of ")?;
-            put_written(out, self.names, address)?;
-            return put_text(out, b"\n");
+            return write!(
+                out,
+                "the initial value is older than each write of {address}\n"
+            );
         };
-        put_text_and_number(out, b"read it from ", source as usize)?;
-        put_text(out, b", which is older in the write list of ")?;
-        put_written(out, self.names, address)?;
-        put_text(out, b"\n")?;
+        write!(
+            out,
+            "read it from {source}, which is older in the write list of {address}\n"
+        )?;
         put_line(out, self.recording, self.names, source)
     }
 
@@ -42,8 +41,7 @@ impl<'a> Named<'a> {
         ensures { OnOk result (out.new.items ≡ out.old.items ++ store_line self.now.recording.now load) }
     {
         put_indent(out, self.recording)?;
-        put_before(out, load)?;
-        put_text(out, b" in program order\n")
+        write!(out, "before {load} in program order\n")
     }
 
     /// Adds an overlook in words.
@@ -56,7 +54,11 @@ impl<'a> Named<'a> {
         ensures { OnOk result (out.new.items ≡ out.old.items
             ++ overlook_text self.now.recording.now self.now.names.now load store) }
     {
-        put_heading(out, load, store)?;
+        write!(
+            out,
+            "No memory order explains this recording: event {load} overlooks event {store}, \
+             a newer write of its own core.\n"
+        )?;
         put_line(out, self.recording, self.names, store)?;
         self.put_store_line(out, load)?;
         put_line(out, self.recording, self.names, load)?;
@@ -66,17 +68,4 @@ impl<'a> Named<'a> {
         let (_, written) = event_of(self.recording, store);
         put_overlook_line(out, &read, &written)
     }
-}
-
-/// Adds what is said first of an overlook.
-fn put_heading(out: &mut Vec<u8>, load: EventId, store: EventId) -> Result<(), OutOfMemory>
-    ensures { OnOk result (out.new.items ≡ out.old.items ++ overlook_heading load store) }
-{
-    put_text_and_number(
-        out,
-        b"No memory order explains this recording: event ",
-        load as usize,
-    )?;
-    put_text_and_number(out, b" overlooks event ", store as usize)?;
-    put_text(out, b", a newer write of its own core.\n")
 }

@@ -85,3 +85,10 @@ pub(crate) fn place_in_list(places: &Places<'_>, address: Addr, event: EventId) 
     }
     place(places.write_list(address), event)
 }
+
+/// The event at a place of the write list of an address; 0 past the last.
+pub(crate) fn write_at(places: &Places<'_>, address: Addr, at: usize) -> EventId
+    ensures { result ≡ slice_index (write_list places.now address) at }
+{
+    places.write_list(address).get(at).copied().unwrap_or(0)
+}

@@ -3,6 +3,8 @@ use Rattle.texts.specs.TextLaws.{next_text}
 use Rattle.drawing.proofs.nodes.put_clusters.Goals as goal
 
 pub loop-core-preserved : goal.loop-core-preserved
-loop-core-preserved c = next_text
-    (cluster_text c.args.recording.now c.args.names.now c.args.numbers.now c.args.rest.now c.args.ranked)
+loop-core-preserved c =
+    let drawn = c.args.drawn.now in
+    next_text
+    (cluster_text drawn.recording.now drawn.names.now drawn.numbers.now drawn.rest.now c.args.ranked)
     c.loop-core.core _ _ _ c.loop-core.invariant c.in_ok-put_cluster.ensures

@@ -5,4 +5,5 @@ use Rattle.drawing.proofs.nodes.put_nodes.Given as goal
 
 abbrev pub invariant-loop-i : goal.invariant-loop-i
 invariant-loop-i l = l.out.items ≡ l.fn.out.items
-    ++ texts_below (node_of_core l.recording l.names l.numbers l.rest l.core) l.i
+    ++ texts_below
+    (node_of_core l.drawn.recording.now l.drawn.names.now l.drawn.numbers.now l.drawn.rest.now l.core) l.i

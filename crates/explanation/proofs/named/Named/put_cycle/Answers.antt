@@ -12,6 +12,6 @@ returns c =
     × (c.put_diy.new.out.items ≡ c.args.out.now.items ++ text)) (λ told. (
       heading ++ (links.0 ++ told.0),
       record { links = links.0; lines = links.1; line = told.0; steps = told.1; whole = refl },
-      two _ c.put_heading.new.out.items _ heading (links.0 ++ told.0) c.in_ok-put_heading.ensures
+      two _ c.write.new.self.items _ heading (links.0 ++ told.0) c.in_ok-write.ensures
           (two _ c.put_links.new.out.items _ links.0 told.0 links.2 told.2),
     )) c.put_diy.ensures

@@ -1,0 +1,14 @@
+//! What a picture draws.
+
+use common::EventId;
+use event_texts::Names;
+use recording::Recording;
+
+/// What is drawn: event i of the rest as event `numbers[i]` of the recording, with these names.
+#[derive(Drop)]
+pub(crate) struct Drawn<'a> {
+    pub(crate) recording: &'a Recording,
+    pub(crate) names: &'a Names,
+    pub(crate) numbers: &'a [EventId],
+    pub(crate) rest: &'a Recording,
+}
