@@ -4,7 +4,7 @@ use Rattle.std.specs.Prelude.{nat_le, nat_lt, option_map}
 use Rattle.std.specs.List.{after_first, before_first}
 use Rattle.std.specs.Option.{option_map_or}
 use Rattle.clap.specs.Words.{Row, Text, first_of}
-use Rattle.program.specs.Numbers.{decimal_of}
+use Rattle.texts.specs.Decimals.{decimal_of}
 use Rattle.campaign.specs.declared.shard.Part.{Part}
 use Rattle.campaign.specs.declared.shard.Shard.{Shard}
 use Rattle.campaign.specs.Shards.{part_of}

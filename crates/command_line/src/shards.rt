@@ -3,7 +3,7 @@ ghost use Rattle.std.specs.Prelude.{◌≡◌, IfOk, IfSome, Option, Some, codes
 ghost use Rattle.std.specs.Result.{result_err};
 ghost use Rattle.campaign.specs.Shards.{IsShard};
 ghost use Rattle.clap.specs.Words.{found_of, rows_of};
-ghost use Rattle.program.specs.Numbers.{AreValues};
+ghost use Rattle.texts.specs.Decimals.{AreValues};
 ghost use Rattle.command_line.specs.Entries.{HasNumber};
 ghost use Rattle.command_line.specs.Options.{IsInRange};
 ghost use Rattle.command_line.specs.Refusals.{part_refusal};
@@ -13,7 +13,8 @@ use crate::entries::{maybe_text, number_or};
 use crate::options::{OptionRefusal, TRIALS};
 use campaign::{Part, Shard};
 use clap::ArgMatches;
-use program::{Number, decimal, is_outside};
+use program::is_outside;
+use texts::{Number, decimal};
 
 /// The shard of this number among so many, where it is one of them.
 fn shard_among(number: Option<Number>, count: Option<Number>) -> Option<Shard>

@@ -1,19 +1,34 @@
 -- What was read by parts of a command.
-use Rattle.std.proofs.Common.{◌≡◌, ◌+◌, ◌++◌, ◌∙◌, ◌<◌, [], ◌∷◌, ℕ, List, Option, Some, None, Result, Ok, Err, ap}
-use Rattle.std.proofs.Common.{arith, IfErr, IsErrAnd, append_assoc, drop, get_or, length, map, refl, subst, sym, take}
+use Rattle.std.proofs.Common.{◌≡◌, ◌+◌, ◌++◌, ◌∙◌, ◌<◌, ◌||◌, [], ◌∷◌, ℕ, List, Option, Some, None, Result, Ok, Err, ap}
+use Rattle.std.proofs.Common.{IfErr, IsErrAnd, append_assoc, drop, get_or, length, map, refl, subst, sym, take}
 use Rattle.std.proofs.lemmas.List.{append-nil, get_or-map, take-append-drop, take_more}
 use Rattle.devices.specs.declared.host.Tally.{Tally}
-use Rattle.devices.specs.Host.{Notes, HostLog}
+use Rattle.devices.specs.Host.{Notes, HostLog, IsIdle}
 use Rattle.inputs.specs.declared.command_error.CommandError.{CommandError}
 use Rattle.inputs.specs.declared.command_error.CommandError.TheVariants.{OutOfMemory}
 use Rattle.inputs.specs.declared.command_stop.CommandStop.{CommandStop}
 use Rattle.inputs.specs.declared.command_stop.CommandStop.TheVariants.{Failed, Refused}
 use Rattle.inputs.specs.declared.command_stop.PrintedRefusal.{PrintedRefusal}
-use Rattle.inputs.specs.Inputs.{AreRead, AreStopped, IsStoppedBy, ReadsNamed}
+use Rattle.inputs.specs.Inputs.{AreRead, AreStopped, AreTakenBack, IsStoppedBy, ReadsNamed, is_read_failure}
+
+-- an input that was taken back leaves none lent
+idle_kept : (a b : Tally) → AreTakenBack a b → IsIdle a → IsIdle b
+idle_kept a b taken idle = subst (λ (t : Tally). IsIdle t) (sym (taken idle)) idle
+
+-- inputs were taken back, and then others
+taken_then : (a b c : Tally) → AreTakenBack a b → AreTakenBack b c → AreTakenBack a c
+taken_then a b c first then idle = then (idle_kept a b first idle) ∙ first idle
+
+-- inputs were taken back, and then others, up to a stop
+stopped_then : (stop : CommandStop) (a b c : Tally) → AreTakenBack a b → IsStoppedBy stop b c → IsStoppedBy stop a c
+stopped_then (Refused refusal) a b c first then = taken_then a b c first then
+stopped_then (Failed error) a b c first then = λ idle.
+    subst (λ (t : Tally). IsIdle c × (c.has_failed ≡ (is_read_failure error || t.has_failed))) (first idle)
+    (then (idle_kept a b first idle))
 
 -- nothing was read
 pub read_none : (a : HostLog) → AreRead [] a a
-read_none a = (go a.asked, refl)
+read_none a = (go a.asked, λ idle. refl)
   where
     go : (told : Option (List (List ℕ))) → Notes told told []
     go None = tt
@@ -30,7 +45,10 @@ notes_then (Some a) (Some b) (Some c) xs ys first then =
 
 -- some inputs were read, then others
 pub read_then : (xs ys : List (List ℕ)) (a b c : HostLog) → AreRead xs a b → AreRead ys b c → AreRead (xs ++ ys) a c
-read_then xs ys a b c first then = (notes_then a.asked b.asked c.asked xs ys first.0 then.0, then.1 ∙ first.1)
+read_then xs ys a b c first then = (
+  notes_then a.asked b.asked c.asked xs ys first.0 then.0,
+  taken_then a.tally b.tally c.tally first.1 then.1,
+)
 
 -- out of memory where all was read, before more names would be asked for
 pub stopped_before : (xs ys : List (List ℕ)) (a b : HostLog) → AreRead xs a b
@@ -40,7 +58,10 @@ stopped_before xs ys a b read = record {
   rest = ys;
   parts = refl;
   asked = read.0;
-  stopped = (ap (λ (t : Tally). t.lent) read.1, omega (arith, ap (λ (t : Tally). t.failed) read.1));
+  stopped = λ idle. (
+    idle_kept a.tally b.tally read.1 idle,
+    ap (λ (t : Tally). t.has_failed) (read.1 idle),
+  );
 }
 
 -- out of memory all was read
@@ -65,7 +86,7 @@ refused_unread refusal a = record {
   rest = [];
   parts = refl;
   asked = (read_none a).0;
-  stopped = refl;
+  stopped = λ idle. refl;
 }
 
 -- an error for which nothing was to be read: there is no memory
@@ -83,7 +104,7 @@ stopped_after xs ys zs stop a b c read h = record {
       (ap (λ (l : List (List ℕ)). l ++ zs) h.parts ∙ append_assoc h.front h.rest zs)
       ∙ sym (append_assoc xs h.front (h.rest ++ zs));
   asked = notes_then a.asked b.asked c.asked xs h.front read.0 h.asked;
-  stopped = subst (λ (t : Tally). IsStoppedBy stop t c.tally) read.1 h.stopped;
+  stopped = stopped_then stop a.tally b.tally c.tally read.1 h.stopped;
 }
 
 -- what hands on the stop of the first

@@ -14,8 +14,7 @@ use Rattle.surveys.specs.declared.range.LineRange.{LineRange}
 use Rattle.surveys.specs.Lines.{lines}
 use Rattle.surveys.specs.Ranges.{lines_in, masked}
 use Rattle.surveys.specs.Surveys.{IsLongRead}
-use Rattle.report.specs.Answer.{IsPut}
-use Rattle.commands.specs.Perform.{Puts}
+use Rattle.commands.specs.Perform.{IsWritten}
 
 -- all bytes that are known were read
 pub all_given : (known left after : Option (List ℕ)) (bytes : List ℕ) → Keeps known left
@@ -77,22 +76,21 @@ long_mapped f (Some xs) left after same keeps long = omega (
 )
 
 -- what is written and handed on, or not, is the answer, or a beginning of it
-pub flushed : (Is : Answer → Type 0) (answer : Answer) (before middle after : Option (List ℕ)) (outcome : Outcome)
-    (r : Result Outcome CommandError) → Is answer → outcome ≡ answer.outcome → Appends before middle answer.text.items
-    → Keeps middle after → IfOk r (λ came. came ≡ outcome) → Puts Is before after r
-flushed Is answer before middle after outcome (Ok came) is out written keeps same =
-    (answer, is, same ∙ out, Appends-kept before middle after answer.text.items written keeps)
-flushed Is answer before middle after outcome (Err error) is out written keeps same = λ failed.
+pub flushed : (answer : Answer) (before middle after : Option (List ℕ)) (r : Result Outcome CommandError)
+    → Appends before middle answer.text.items → Keeps middle after → IfOk r (λ came. came ≡ answer.outcome)
+    → IsWritten answer before after r
+flushed answer before middle after (Ok came) written keeps same =
+    (same, Appends-kept before middle after answer.text.items written keeps)
+flushed answer before middle after (Err error) written keeps same = λ failed.
     let text = answer.text.items in (
-      answer,
-      is,
       length text,
       subst (λ (t : List ℕ). Appends before after t) (sym (take_all (length text) text (omega arith)))
           (Appends-kept before middle after text written keeps),
     )
 
 -- without a stop all of it was written
-pub put_whole : (Is : Answer → Type 0) (before after : Option (List ℕ)) (r : Result Outcome CommandError)
-    → Puts Is before after r → IfOk r (IsPut Is before after)
-put_whole Is before after (Ok outcome) put = put
-put_whole Is before after (Err error) begun = tt
+pub output_whole : (answer : Answer) (before after : Option (List ℕ)) (r : Result Outcome CommandError)
+    → IsWritten answer before after r
+    → IfOk r (λ outcome. (outcome ≡ answer.outcome) × Appends before after answer.text.items)
+output_whole answer before after (Ok outcome) output = output
+output_whole answer before after (Err error) output = tt

@@ -1,5 +1,5 @@
 -- What merge answers to texts, and why it stops.
-use Rattle.std.proofs.Common.{◌≡◌, ◌<◌, ◌∷◌, [], ℕ, Bool, List, Option, Result, Ok, Err, arith, false, length, map, refl, subst, sym, true}
+use Rattle.std.proofs.Common.{◌≡◌, ◌<◌, ◌∷◌, [], ℕ, Bool, List, Result, Ok, Err, arith, length, map, refl, subst, sym}
 use Rattle.std.specs.List.{AllZip}
 use Rattle.std.specs.Prelude.{IfErr, IfOk, string_bytes}
 use Rattle.std.proofs.lemmas.List.{length-map}
@@ -7,7 +7,7 @@ use Rattle.command_line.specs.declared.options.MergeOptions.{MergeOptions}
 use Rattle.inputs.specs.declared.command_error.CommandError.{CommandError}
 use Rattle.inputs.specs.declared.command_stop.CommandStop.{CommandStop}
 use Rattle.inputs.specs.declared.command_stop.CommandStop.TheVariants.{Refused, Failed}
-use Rattle.inputs.specs.Inputs.{AreBytesOf}
+use Rattle.inputs.specs.Inputs.{AreBytesOf, Inputs}
 use Rattle.verdicts.specs.declared.printed.Answer.{Answer}
 use Rattle.commands.specs.Merge.{AreRefused, IsAnswerOfTexts, IsErrorAmong, IsMerged, IsMergeStop, IsTextsStop}
 use Rattle.commands.specs.Merge.{gaps_of, is_headed}
@@ -21,11 +21,11 @@ zip_length R (a ∷ xs) [] all = absurd all
 zip_length R (a ∷ xs) (b ∷ ys) all = omega (arith, zip_length R xs ys all.1)
 
 -- the inputs are these texts
-abbrev pub AreGiven : (List ℕ → Option (List ℕ)) → MergeOptions → List (List ℕ) → Type 0
+abbrev pub AreGiven : Inputs → MergeOptions → List (List ℕ) → Type 0
 AreGiven inputs o texts = AllZip (AreBytesOf inputs) (map string_bytes o.files.items) texts
 
 -- what is answered
-pub answered : (inputs : List ℕ → Option (List ℕ)) (o : MergeOptions) (texts : List (List ℕ)) (headed : Bool)
+pub answered : (inputs : Inputs) (o : MergeOptions) (texts : List (List ℕ)) (headed : Bool)
     (r : Result Answer CommandStop) → AreGiven inputs o texts → is_headed o.partial texts ≡ headed
     → IfOk r (IsAnswerOfTexts headed (gaps_of o.partial) texts) → IfOk r (IsMerged inputs o)
 answered inputs o texts headed (Ok answer) given same is = (
@@ -36,7 +36,7 @@ answered inputs o texts headed (Ok answer) given same is = (
 answered inputs o texts headed (Err stop) given same is = is
 
 -- why it stops
-pub stopped : (inputs : List ℕ → Option (List ℕ)) (o : MergeOptions) (texts : List (List ℕ)) (headed : Bool)
+pub stopped : (inputs : Inputs) (o : MergeOptions) (texts : List (List ℕ)) (headed : Bool)
     (r : Result Answer CommandStop) → AreGiven inputs o texts → 0 < length o.files.items
     → is_headed o.partial texts ≡ headed → IfErr r (IsTextsStop headed (map string_bytes o.files.items) texts)
     → IfErr r (IsMergeStop inputs o)

@@ -7,13 +7,13 @@ use Rattle.command_line.specs.declared.options.Options.TheVariants.{Reduce, Veri
 use Rattle.verdicts.specs.declared.printed.Answer.{Answer}
 use Rattle.answers.specs.declared.rendering.Rendering.TheVariants.{Words, Picture, Reduction}
 use Rattle.inputs.specs.declared.command_stop.CommandStop.{CommandStop}
-use Rattle.inputs.specs.declared.command_stop.CommandStop.TheVariants.{Refused, Failed}
+use Rattle.inputs.specs.declared.command_stop.CommandStop.TheVariants.{Failed}
 use Rattle.inputs.specs.declared.command_error.CommandError.TheVariants.{OutOfMemory}
-use Rattle.inputs.specs.Inputs.{IsInputError}
+use Rattle.inputs.specs.Inputs.{Inputs, IsInputError}
 use Rattle.inputs.specs.Named.{IsValuesStop}
 use Rattle.inputs.specs.Refusal.{IsFailure}
 use Rattle.commands.specs.Complete.{IsCompletedInput}
-use Rattle.commands.specs.Judge.{IsFileAnswer, IsJudgeError, IsLongFileAnswer, IsVerified, IsVerifyStop}
+use Rattle.commands.specs.Judge.{IsFileAnswer, IsLongFileAnswer, IsVerified, IsVerifyStop}
 use Rattle.commands.specs.Make.{IsMakeAnswer, IsMakeStop}
 use Rattle.commands.specs.Merge.{IsMerged, IsMergeStop}
 use Rattle.commands.specs.Outcomes.{IsOutcomes, IsOutcomesStop, question_names}
@@ -56,7 +56,7 @@ input_names (Complete o) = string_bytes o.file ∷ []
 input_names (Make o) = []
 
 -- what a command answers to its options and inputs
-abbrev pub IsAnswerTo : (List ℕ → Option (List ℕ)) → Options → Answer → Type 0
+abbrev pub IsAnswerTo : Inputs → Options → Answer → Type 0
 IsAnswerTo inputs (Run o) answer = IsRun inputs o answer
 IsAnswerTo inputs (Judge o) answer = IsFileAnswer inputs o answer
 IsAnswerTo inputs (JudgeLong o) answer = IsLongFileAnswer inputs o answer
@@ -74,10 +74,9 @@ IsAnswerTo inputs (Complete o) answer = IsCompletedInput inputs o answer
 IsAnswerTo inputs (Make o) answer = IsMakeAnswer o answer
 
 -- why a command with these options and inputs stops
-abbrev pub IsCommandStop : (List ℕ → Option (List ℕ)) → Options → CommandStop → Type 0
+abbrev pub IsCommandStop : Inputs → Options → CommandStop → Type 0
 IsCommandStop inputs (Run o) stop = IsRunStop inputs o (script_name o.runs (option_map string_bytes o.steps)) stop
-IsCommandStop inputs (Judge o) (Refused refusal) = ⊥
-IsCommandStop inputs (Judge o) (Failed error) = IsJudgeError inputs o error
+IsCommandStop inputs (Judge o) stop = IsFailure (IsInputError inputs (string_bytes o.file)) stop
 IsCommandStop inputs (JudgeLong o) stop = IsFailure (IsInputError inputs (string_bytes o.file)) stop
 IsCommandStop inputs (Trials o) stop = stop ≡ Failed OutOfMemory
 IsCommandStop inputs (Live o) stop = IsLiveStop inputs o stop

@@ -4,7 +4,8 @@ use Rattle.command_line.specs.declared.options.CompleteOptions.{CompleteOptions}
 use Rattle.verdicts.specs.declared.printed.Answer.{Answer}
 use Rattle.answers.specs.Completion.{IsCompletionAnswer}
 use Rattle.inputs.specs.Named.{OfValues}
+use Rattle.inputs.specs.Inputs.{Inputs}
 
 -- the values of the named input are completed, or are impossible, or it is `unfinished`
-abbrev pub IsCompletedInput : (List ℕ → Option (List ℕ)) → CompleteOptions → Answer → Type 0
+abbrev pub IsCompletedInput : Inputs → CompleteOptions → Answer → Type 0
 IsCompletedInput inputs o answer = OfValues inputs (string_bytes o.file) (λ v. IsCompletionAnswer v o.states answer)

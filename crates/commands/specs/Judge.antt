@@ -1,5 +1,5 @@
 -- What judge and verify answer.
-use Rattle.std.specs.Prelude.{◌≢◌, ◌⊎◌, ℕ, List, Option, Ok, string_bytes, ⊤}
+use Rattle.std.specs.Prelude.{◌≢◌, ◌⊎◌, ℕ, List, Option, Ok, string_bytes}
 use Rattle.command_line.specs.declared.options.FileOptions.{FileOptions}
 use Rattle.command_line.specs.declared.options.JudgeOptions.{JudgeOptions}
 use Rattle.command_line.specs.declared.options.VerifyOptions.{VerifyOptions}
@@ -13,9 +13,7 @@ use Rattle.report.specs.Answer.{IsAnswerOf, IsLongAnswerOf}
 use Rattle.verification.specs.Checked.{IsCheckAnswer}
 use Rattle.verification.specs.Proof.{IsLongProof, IsProof}
 use Rattle.inputs.specs.declared.command_stop.CommandStop.{CommandStop}
-use Rattle.inputs.specs.declared.command_error.CommandError.{CommandError}
-use Rattle.inputs.specs.declared.command_error.CommandError.TheVariants.{WriteFailed}
-use Rattle.inputs.specs.Inputs.{IsInputError, OfBytes}
+use Rattle.inputs.specs.Inputs.{Inputs, IsInputError, OfBytes}
 use Rattle.inputs.specs.Named.{IsRecordingStop, OfRecording}
 use Rattle.inputs.specs.Refusal.{IsFailure}
 
@@ -25,18 +23,13 @@ AnswerHolds bytes answer = answer.outcome ≢ Refused → (x : Execution) × IsR
     × IsProof x answer.text.items
 
 -- the answer to the bytes of the named input, which holds
-abbrev pub IsFileAnswer : (List ℕ → Option (List ℕ)) → JudgeOptions → Answer → Type 0
+abbrev pub IsFileAnswer : Inputs → JudgeOptions → Answer → Type 0
 IsFileAnswer inputs o answer = OfBytes inputs (string_bytes o.file)
     (λ bytes. IsAnswerOf bytes answer × AnswerHolds bytes answer)
 
 -- the answer to the bytes of the named input as a long recording
-abbrev pub IsLongFileAnswer : (List ℕ → Option (List ℕ)) → FileOptions → Answer → Type 0
+abbrev pub IsLongFileAnswer : Inputs → FileOptions → Answer → Type 0
 IsLongFileAnswer inputs o answer = OfBytes inputs (string_bytes o.file) (λ bytes. IsLongAnswerOf bytes answer)
-
--- why nothing is answered: the named input isn't read, or a write failed
-abbrev pub IsJudgeError : (List ℕ → Option (List ℕ)) → JudgeOptions → CommandError → Type 0
-IsJudgeError inputs o WriteFailed = ⊤
-IsJudgeError inputs o error = IsInputError inputs (string_bytes o.file) error
 
 -- a text is a proof of a verdict on a short recording, or of an answer to a long one
 abbrev pub IsProofOf : RecordingSize → Execution → List ℕ → Type 0
@@ -44,11 +37,11 @@ IsProofOf Short x text = IsProof x text
 IsProofOf Long x text = IsLongProof x text
 
 -- the answer to the text of the second input, of the recording of the first
-abbrev pub IsVerified : (List ℕ → Option (List ℕ)) → VerifyOptions → Answer → Type 0
+abbrev pub IsVerified : Inputs → VerifyOptions → Answer → Type 0
 IsVerified inputs o answer = OfRecording inputs (string_bytes o.recording) o.size
     (λ x. OfBytes inputs (string_bytes o.verdict) (λ text. IsCheckAnswer (IsProofOf o.size x text) answer))
 
 -- why a text is not checked: the recording is refused or isn't read, or the text isn't
-abbrev pub IsVerifyStop : (List ℕ → Option (List ℕ)) → VerifyOptions → CommandStop → Type 0
+abbrev pub IsVerifyStop : Inputs → VerifyOptions → CommandStop → Type 0
 IsVerifyStop inputs o stop = IsRecordingStop inputs (string_bytes o.recording) o.size stop
     ⊎ IsFailure (IsInputError inputs (string_bytes o.verdict)) stop

@@ -28,10 +28,10 @@ use Rattle.inputs.specs.declared.command_error.CommandError.{CommandError}
 use Rattle.inputs.specs.declared.command_error.CommandError.TheVariants.{OutOfMemory}
 use Rattle.inputs.specs.declared.command_stop.CommandStop.{CommandStop}
 use Rattle.inputs.specs.declared.command_stop.CommandStop.TheVariants.{Refused, Failed}
-use Rattle.inputs.specs.Inputs.{AreBytesOf, IsInputError}
+use Rattle.inputs.specs.Inputs.{AreBytesOf, Inputs, IsInputError}
 
 -- why the input of one of these names isn't read
-abbrev pub IsErrorAmong : (List ℕ → Option (List ℕ)) → List (List ℕ) → CommandError → Type 0
+abbrev pub IsErrorAmong : Inputs → List (List ℕ) → CommandError → Type 0
 IsErrorAmong inputs names error =
     (k : ℕ) × (k < length names) × IsInputError inputs (slice_index_or names k []) error
 
@@ -81,7 +81,7 @@ IsAnswerOfTexts true how texts answer = IsJoinAnswer how texts answer
 IsAnswerOfTexts false how texts answer = IsMergeAnswer texts answer
 
 -- the answer of merge, whose texts are the bytes of the named inputs, in order
-abbrev pub IsMerged : (List ℕ → Option (List ℕ)) → MergeOptions → Answer → Type 0
+abbrev pub IsMerged : Inputs → MergeOptions → Answer → Type 0
 IsMerged inputs o answer = (texts : List (List ℕ))
     × AllZip (AreBytesOf inputs) (map string_bytes o.files.items) texts
     × IsAnswerOfTexts (is_headed o.partial texts) (gaps_of o.partial) texts answer
@@ -162,7 +162,7 @@ AreRefused true names texts printed = IsRefusedJoin names texts printed
 AreRefused false names texts printed = IsRefusedMerge names texts printed
 
 -- why merge stops: the texts are refused, or an input isn't read
-abbrev pub IsMergeStop : (List ℕ → Option (List ℕ)) → MergeOptions → CommandStop → Type 0
+abbrev pub IsMergeStop : Inputs → MergeOptions → CommandStop → Type 0
 IsMergeStop inputs o (Refused refusal) = (texts : List (List ℕ))
     × AllZip (AreBytesOf inputs) (map string_bytes o.files.items) texts
     × AreRefused (is_headed o.partial texts) (map string_bytes o.files.items) texts (string_bytes refusal.line)

@@ -27,7 +27,7 @@ use Rattle.commands.specs.Replay.{IsReplayText}
 use Rattle.inputs.specs.declared.command_error.CommandError.TheVariants.{OutOfMemory}
 use Rattle.inputs.specs.declared.command_stop.CommandStop.{CommandStop}
 use Rattle.inputs.specs.declared.command_stop.CommandStop.TheVariants.{Refused, Failed}
-use Rattle.inputs.specs.Inputs.{AreBytesOf, IsInputError}
+use Rattle.inputs.specs.Inputs.{AreBytesOf, Inputs, IsInputError}
 use Rattle.inputs.specs.Named.{IsProgramStop, OfProgram}
 
 -- the names of the inputs of a question
@@ -36,7 +36,7 @@ question_names (Observed file unseen why) = string_bytes file ∷ []
 question_names other = []
 
 -- the log of this name says these lines of a program
-pub record IsLogAt (inputs : List ℕ → Option (List ℕ)) (name : List ℕ) (p : Parts) (lines : List Seen) : Type 0 where
+pub record IsLogAt (inputs : Inputs) (name : List ℕ) (p : Parts) (lines : List Seen) : Type 0 where
   pub text : List ℕ
   pub given : AreBytesOf inputs name text
   pub says : log_says p text ≡ Ok lines
@@ -68,7 +68,7 @@ IsShownOutcome p states text answer =
     (seen : List Observation) × (condition_of p text ≡ Ok seen) × IsShowAnswer p states seen answer
 
 -- the answer to a question about the outcomes of a program
-abbrev pub IsQuestionAnswer : (List ℕ → Option (List ℕ)) → Parts → ℕ → Question → Answer → Type 0
+abbrev pub IsQuestionAnswer : Inputs → Parts → ℕ → Question → Answer → Type 0
 IsQuestionAnswer inputs p states All answer = IsOutcomesAnswer p states answer
 IsQuestionAnswer inputs p states (Observed file unseen why) answer = (lines : List Seen)
     × IsLogAt inputs (string_bytes file) p lines
@@ -80,12 +80,12 @@ IsQuestionAnswer inputs p states (Never items) answer =
 IsQuestionAnswer inputs p states (Show items) answer = IsShownOutcome p states (string_bytes items) answer
 
 -- the answer of outcomes
-abbrev pub IsOutcomes : (List ℕ → Option (List ℕ)) → OutcomesOptions → Answer → Type 0
+abbrev pub IsOutcomes : Inputs → OutcomesOptions → Answer → Type 0
 IsOutcomes inputs o answer = OfProgram inputs (string_bytes o.program)
     (λ p. IsQuestionAnswer inputs p o.states o.question answer)
 
 -- the log of this name is refused, by its first line at fault, or isn't read
-abbrev pub IsLogStop : (List ℕ → Option (List ℕ)) → List ℕ → CommandStop → Parts → Type 0
+abbrev pub IsLogStop : Inputs → List ℕ → CommandStop → Parts → Type 0
 IsLogStop inputs name (Refused refusal) p = (text : List ℕ) × AreBytesOf inputs name text × (n : ℕ)
     × (log_says p text ≡ Err n) × (string_bytes refusal.line ≡ refusal_line (codes "O1") n)
 IsLogStop inputs name (Failed error) p = IsInputError inputs name error
@@ -101,7 +101,7 @@ IsConditionStop text (Refused refusal) p =
 IsConditionStop text (Failed error) p = error ≡ OutOfMemory
 
 -- why a question about the outcomes of a program is not answered
-abbrev pub IsQuestionStop : (List ℕ → Option (List ℕ)) → Question → CommandStop → Parts → Type 0
+abbrev pub IsQuestionStop : Inputs → Question → CommandStop → Parts → Type 0
 IsQuestionStop inputs All stop p = stop ≡ Failed OutOfMemory
 IsQuestionStop inputs (Observed file unseen why) stop p = IsLogStop inputs (string_bytes file) stop p
 IsQuestionStop inputs (Exists items) stop p = IsConditionStop (string_bytes items) stop p
@@ -109,6 +109,6 @@ IsQuestionStop inputs (Never items) stop p = IsConditionStop (string_bytes items
 IsQuestionStop inputs (Show items) stop p = IsConditionStop (string_bytes items) stop p
 
 -- why outcomes stops: its program does, or the question about it
-abbrev pub IsOutcomesStop : (List ℕ → Option (List ℕ)) → OutcomesOptions → CommandStop → Type 0
+abbrev pub IsOutcomesStop : Inputs → OutcomesOptions → CommandStop → Type 0
 IsOutcomesStop inputs o stop = IsProgramStop inputs (string_bytes o.program) stop
     ⊎ OfProgram inputs (string_bytes o.program) (IsQuestionStop inputs o.question stop)

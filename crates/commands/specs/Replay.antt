@@ -18,6 +18,7 @@ use Rattle.verdicts.specs.declared.outcome.Outcome.TheVariants.{Done, Violation}
 use Rattle.inputs.specs.Named.{IsRecordingStop, OfRecording}
 use Rattle.inputs.specs.Refusal.{IsLineStop}
 use Rattle.verdicts.specs.VerdictAnswer.{IsVerdictAnswer}
+use Rattle.inputs.specs.Inputs.{Inputs}
 
 -- a capacity, the text of a program and a script, with an empty line between them
 abbrev pub parts_text : ℕ → List ℕ → List ℕ → List ℕ
@@ -57,13 +58,13 @@ abbrev pub IsReplayOf : Execution → Answer → Type 0
 IsReplayOf x answer = IsReplayAnswer x answer ⊎ IsViolationAnswer x answer
 
 -- the recording of the named input, whose addresses are numbered by first use, is replayed, or is a violation
-abbrev pub IsReplayedInput : (List ℕ → Option (List ℕ)) → FileOptions → Answer → Type 0
+abbrev pub IsReplayedInput : Inputs → FileOptions → Answer → Type 0
 IsReplayedInput inputs o answer = OfRecording inputs (string_bytes o.file) Short
     (λ x. IsNumberedByFirstUse x × IsReplayOf x answer)
 
 -- why the recording of the named input is not replayed: it isn't read, or its addresses are not numbered by first use;
 -- memory alone is left open
-abbrev pub IsReplayStop : (List ℕ → Option (List ℕ)) → FileOptions → CommandStop → Type 0
+abbrev pub IsReplayStop : Inputs → FileOptions → CommandStop → Type 0
 IsReplayStop inputs o stop = IsRecordingStop inputs (string_bytes o.file) Short stop
     ⊎ OfRecording inputs (string_bytes o.file) Short
     (λ x. ¬ IsNumberedByFirstUse x × IsLineStop (codes "refused: N8" ++ 10 ∷ []) stop)

@@ -21,18 +21,18 @@ use Rattle.machine.specs.Script.{steps_of}
 use Rattle.inputs.specs.declared.command_stop.CommandStop.{CommandStop}
 use Rattle.inputs.specs.declared.command_stop.CommandStop.TheVariants.{Refused, Failed}
 use Rattle.inputs.specs.declared.command_error.CommandError.TheVariants.{NoThread, Stranger}
-use Rattle.inputs.specs.Inputs.{AreBytesOf, IsInputError}
+use Rattle.inputs.specs.Inputs.{AreBytesOf, Inputs, IsInputError}
 use Rattle.inputs.specs.Named.{IsProgramStop, OfProgram}
 use Rattle.inputs.specs.Refusal.{IsReadingStop, step_refusal_name}
 
 -- the answer of a program and the script of this name
-abbrev pub IsScriptAnswer : (List ℕ → Option (List ℕ)) → RunOptions → Parts → List ℕ → Answer → Type 0
+abbrev pub IsScriptAnswer : Inputs → RunOptions → Parts → List ℕ → Answer → Type 0
 IsScriptAnswer inputs o program name answer = (text : List ℕ) × AreBytesOf inputs name text
     × (script : List Step) × (steps_of program text ≡ Ok script)
     × IsRunAnswer o.fault program (script_state program o.buffer o.fault script) answer
 
 -- the answer of a program, and of a script where one is named, or else of random steps
-abbrev pub IsRunOf : (List ℕ → Option (List ℕ)) → RunOptions → Parts → Option (List ℕ) → Answer → Type 0
+abbrev pub IsRunOf : Inputs → RunOptions → Parts → Option (List ℕ) → Answer → Type 0
 IsRunOf inputs o program (Some name) answer = IsScriptAnswer inputs o program name answer
 IsRunOf inputs o program None answer = IsSeededAnswer program o.buffer o.fault o.seed o.attempts answer
 
@@ -48,23 +48,23 @@ seeded_runs o n = record {
 }
 
 -- the answer of one run, or the histogram of as many as are counted
-abbrev pub IsRunsAnswer : (List ℕ → Option (List ℕ)) → RunOptions → Parts → Option ℕ → Answer → Type 0
+abbrev pub IsRunsAnswer : Inputs → RunOptions → Parts → Option ℕ → Answer → Type 0
 IsRunsAnswer inputs o program None answer = IsRunOf inputs o program (option_map string_bytes o.steps) answer
 IsRunsAnswer inputs o program (Some n) answer = IsSeededHistogramAnswer program (seeded_runs o n) answer
 
 -- the answer of run
-abbrev pub IsRun : (List ℕ → Option (List ℕ)) → RunOptions → Answer → Type 0
+abbrev pub IsRun : Inputs → RunOptions → Answer → Type 0
 IsRun inputs o answer = OfProgram inputs (string_bytes o.program)
     (λ program. IsRunsAnswer inputs o program o.runs answer)
 
 -- the script of this name is refused for the program, or isn't read
-abbrev pub IsScriptStop : (List ℕ → Option (List ℕ)) → List ℕ → CommandStop → Parts → Type 0
+abbrev pub IsScriptStop : Inputs → List ℕ → CommandStop → Parts → Type 0
 IsScriptStop inputs name (Refused refusal) program = (text : List ℕ) × AreBytesOf inputs name text
     × IsReadingStop step_refusal_name (steps_of program text) (Refused refusal)
 IsScriptStop inputs name (Failed error) program = IsInputError inputs name error
 
 -- why a run stops: its program does, or the script where one is named
-abbrev pub IsRunStop : (List ℕ → Option (List ℕ)) → RunOptions → Option (List ℕ) → CommandStop → Type 0
+abbrev pub IsRunStop : Inputs → RunOptions → Option (List ℕ) → CommandStop → Type 0
 IsRunStop inputs o (Some name) stop = IsProgramStop inputs (string_bytes o.program) stop
     ⊎ OfProgram inputs (string_bytes o.program) (IsScriptStop inputs name stop)
 IsRunStop inputs o None stop = IsProgramStop inputs (string_bytes o.program) stop
@@ -87,11 +87,11 @@ IsLiveAnswer o program None answer = IsOneLive o program answer
 IsLiveAnswer o program (Some n) answer = IsLiveHistogramAnswer program (live_runs o n) answer
 
 -- the answer of live
-abbrev pub IsLive : (List ℕ → Option (List ℕ)) → LiveOptions → Answer → Type 0
+abbrev pub IsLive : Inputs → LiveOptions → Answer → Type 0
 IsLive inputs o answer = OfProgram inputs (string_bytes o.program) (λ program. IsLiveAnswer o program o.runs answer)
 
 -- the named program is refused or isn't read, or it is read and threads fail
-abbrev pub IsLiveStop : (List ℕ → Option (List ℕ)) → LiveOptions → CommandStop → Type 0
+abbrev pub IsLiveStop : Inputs → LiveOptions → CommandStop → Type 0
 IsLiveStop inputs o (Refused refusal) = IsProgramStop inputs (string_bytes o.program) (Refused refusal)
 IsLiveStop inputs o (Failed NoThread) = OfProgram inputs (string_bytes o.program) (λ _. ⊤)
 IsLiveStop inputs o (Failed Stranger) = OfProgram inputs (string_bytes o.program) (λ _. ⊤)

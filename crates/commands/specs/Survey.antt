@@ -28,7 +28,7 @@ use Rattle.inputs.specs.declared.command_error.CommandError.{CommandError}
 use Rattle.inputs.specs.declared.command_error.CommandError.TheVariants.{TooLong, WriteFailed}
 use Rattle.inputs.specs.declared.command_stop.CommandStop.{CommandStop}
 use Rattle.inputs.specs.declared.command_stop.CommandStop.TheVariants.{Refused, Failed}
-use Rattle.inputs.specs.Inputs.{IsInputError}
+use Rattle.inputs.specs.Inputs.{Inputs, IsInputError}
 use Rattle.commands.specs.Headed.{IsHeaded}
 
 -- a line of each recording is printed before the input's end
@@ -62,7 +62,7 @@ abbrev pub range_of : SurveyOptions → LineRange
 range_of o = record { first = o.from; count = o.lines }
 
 -- these are the lines of the named input that are surveyed, where its bytes are known
-abbrev pub AreLinesOf : (List ℕ → Option (List ℕ)) → SurveyOptions → List (List ℕ) → Type 0
+abbrev pub AreLinesOf : Inputs → SurveyOptions → List (List ℕ) → Type 0
 AreLinesOf inputs o all = IfSome (inputs (string_bytes o.file)) (λ bytes. all ≡ lines_in (range_of o) bytes)
 
 -- whose counts a header is
@@ -78,7 +78,7 @@ abbrev pub survey_header : SurveyOptions → Option Header
 survey_header o = if o.header then option_map (header_of_lines o.long o.from) o.lines else None
 
 -- what is found in the lines of the named input, in order, and what is counted of their codes
-pub record IsSurveyed (inputs : List ℕ → Option (List ℕ)) (o : SurveyOptions) (findings : List Finding)
+pub record IsSurveyed (inputs : Inputs) (o : SurveyOptions) (findings : List Finding)
     (ledger : SurveyLedger) : Type 0 where
   pub all : List (List ℕ)
   pub given : AreLinesOf inputs o all
@@ -86,7 +86,7 @@ pub record IsSurveyed (inputs : List ℕ → Option (List ℕ)) (o : SurveyOptio
   pub counted : IsSurveyLedger (codes_of findings) ledger
 
 -- a line of each was written, an empty line, and their counts
-pub record IsEachWritten (inputs : List ℕ → Option (List ℕ)) (o : SurveyOptions) (before after : Option (List ℕ))
+pub record IsEachWritten (inputs : Inputs) (o : SurveyOptions) (before after : Option (List ℕ))
     (outcome : Outcome) : Type 0 where
   pub tells : TellsEach o
   pub findings : List Finding
@@ -101,7 +101,7 @@ IsShown true reduce line answer = IsLongAnswerOf line answer
 IsShown false reduce line answer = IsLineAnswer reduce line answer
 
 -- the answer of survey, where no recording is reported, by the one that is to be shown
-abbrev pub IsSurveyOf : (List ℕ → Option (List ℕ)) → SurveyOptions → Option ℕ → Answer → Type 0
+abbrev pub IsSurveyOf : Inputs → SurveyOptions → Option ℕ → Answer → Type 0
 IsSurveyOf inputs o None answer = (o.each ≢ true) × (findings : List Finding) × (ledger : SurveyLedger)
     × IsSurveyed inputs o findings ledger × (counts : Answer) × IsCountsAnswer o.complete false ledger counts
     × IsHeaded (survey_header o) counts answer
@@ -109,22 +109,22 @@ IsSurveyOf inputs o (Some k) answer = (all : List (List ℕ)) × AreLinesOf inpu
     × IsLineAmong all k line × IsShown o.long o.reduce line answer
 
 -- the named input has no recording of the number that is asked for
-abbrev pub IsPastTheEnd : (List ℕ → Option (List ℕ)) → SurveyOptions → Option ℕ → Type 0
+abbrev pub IsPastTheEnd : Inputs → SurveyOptions → Option ℕ → Type 0
 IsPastTheEnd inputs o None = ⊥
 IsPastTheEnd inputs o (Some k) = (all : List (List ℕ)) × AreLinesOf inputs o all × (length all ≤ k)
 
 -- why the named input is not surveyed: it isn't read, or it has 2^64 bytes or more
-abbrev pub IsSurveyError : (List ℕ → Option (List ℕ)) → SurveyOptions → CommandError → Type 0
+abbrev pub IsSurveyError : Inputs → SurveyOptions → CommandError → Type 0
 IsSurveyError inputs o TooLong = IfSome (inputs (string_bytes o.file)) (λ bytes. 2 ^ 64 ≤ length bytes)
 IsSurveyError inputs o error = IsInputError inputs (string_bytes o.file) error
 
 -- why not all of it is reported: it is not surveyed, or a write failed
-abbrev pub IsEachError : (List ℕ → Option (List ℕ)) → SurveyOptions → CommandError → Type 0
+abbrev pub IsEachError : Inputs → SurveyOptions → CommandError → Type 0
 IsEachError inputs o WriteFailed = ⊤
 IsEachError inputs o error = IsSurveyError inputs o error
 
 -- why nothing is surveyed: there is no recording with the number that is asked for, or the input isn't read
-abbrev pub IsSurveyStop : (List ℕ → Option (List ℕ)) → SurveyOptions → Option ℕ → CommandStop → Type 0
+abbrev pub IsSurveyStop : Inputs → SurveyOptions → Option ℕ → CommandStop → Type 0
 IsSurveyStop inputs o show (Refused refusal) = IsPastTheEnd inputs o show
     × (string_bytes refusal.line ≡ codes "refused: K11" ++ 10 ∷ [])
 IsSurveyStop inputs o show (Failed error) = IsSurveyError inputs o error

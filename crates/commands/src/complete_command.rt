@@ -1,6 +1,6 @@
 //! The command `complete`.
 ghost use Rattle.std.specs.Prelude.{◌∷◌, [], IfErr, IfOk, string_bytes};
-ghost use Rattle.inputs.specs.Inputs.{CanRead, ReadsNamed};
+ghost use Rattle.inputs.specs.Inputs.{ReadsNamed};
 ghost use Rattle.inputs.specs.Named.{IsValuesStop};
 ghost use Rattle.commands.specs.Complete.{IsCompletedInput};
 
@@ -17,7 +17,6 @@ pub fn complete_command<H: Host>(
     options: &CompleteOptions,
     host: &mut H,
 ) -> Result<Answer, CommandStop>
-    requires { CanRead (H.log host.old).tally }
     ensures ok { IfOk result (IsCompletedInput (H.bytes host.old) options.now) }
     ensures err { IfErr result (IsValuesStop (H.bytes host.old) (string_bytes options.now.file)) }
     ensures reads { ReadsNamed (string_bytes options.now.file ∷ []) (H.log host.old) (H.log host.new) result }

@@ -1,48 +1,46 @@
 //! The command `judge`.
-ghost use Rattle.std.specs.Prelude.{◌≡◌, ◌≢◌, ◌≤◌, ◌∷◌, [], IfErr, string_bytes};
-ghost use Rattle.devices.specs.Bytes.{CanGrow, CountsBy};
-ghost use Rattle.inputs.specs.Inputs.{CanRead, ReadsAll, command_failed_writes};
-ghost use Rattle.commands.specs.Judge.{IsFileAnswer, IsJudgeError};
-ghost use Rattle.commands.specs.Perform.{Puts};
+ghost use Rattle.std.specs.Prelude.{◌≤◌, ◌∷◌, [], IfErr, IfOk, string_bytes};
+ghost use Rattle.inputs.specs.Inputs.{IsInputError, ReadsNamed};
+ghost use Rattle.inputs.specs.Refusal.{IsFailure};
+ghost use Rattle.commands.specs.Judge.{IsFileAnswer};
 
-use crate::output::flush;
 use command_line::JudgeOptions;
 use common::{MAX_WORKERS, OpenGate};
-use devices::{Host, Sink};
-use inputs::{CommandError, opened};
-use report::{Outcome, ReportError, answer};
+use devices::{Host, MemorySink};
+use inputs::{CommandError, CommandStop, opened};
+use report::{Answer, ReportError, answer};
 use std::alloc::Global;
 use std::sync::Wait;
 use std::thread::Threads;
 use verification::every_verdict_holds;
 
-/// Judges the recording of a named input, by as many workers as the options say, and writes the answer. Unless it is a
-/// refusal, it holds, as `check_text` says of it too.
-pub fn judge_command<R: Threads + Wait + Sync, H: Host, W: Sink>(
+/// Judges the recording of a named input, by as many workers as the options say. Unless the answer is a refusal, it holds,
+/// as `check_text` says of it too.
+pub fn judge_command<R: Threads + Wait + Sync, H: Host>(
     rt: &R,
     alloc: Global,
     options: &JudgeOptions,
     host: &mut H,
-    out: &mut W,
-) -> Result<Outcome, CommandError>
-    requires workers { (1 ≤ options.now.workers) × (options.now.workers ≤ MAX_WORKERS) }
-    requires inputs { CanRead (H.log host.old).tally }
-    requires output { CanGrow (W.write_failures out.old) }
-    ensures written { Puts (IsFileAnswer (H.bytes host.old) options.now) (W.written out.old) (W.written out.new)
-        result }
-    ensures error { IfErr result (IsJudgeError (H.bytes host.old) options.now) }
-    ensures reads { ReadsAll (string_bytes options.now.file ∷ []) (H.log host.old) (H.log host.new) result }
-    ensures writes { CountsBy command_failed_writes (W.write_failures out.old) (W.write_failures out.new) result }
-    ensures unwritten { IfErr result (λ error. error ≢ CommandError.WriteFailed → out.new ≡ out.old) }
+) -> Result<Answer, CommandStop>
+    requires { (1 ≤ options.now.workers) × (options.now.workers ≤ MAX_WORKERS) }
+    ensures ok { IfOk result (IsFileAnswer (H.bytes host.old) options.now) }
+    ensures err { IfErr result (IsFailure (IsInputError (H.bytes host.old) (string_bytes options.now.file))) }
+    ensures reads { ReadsNamed (string_bytes options.now.file ∷ []) (H.log host.old) (H.log host.new) result }
 {
     every_verdict_holds();
     let mut input = opened(alloc, host, options.file.as_str())?;
-    let answered = answer(rt, alloc, &mut input, out, options.workers, &OpenGate);
+    let mut out = MemorySink::new(alloc);
+    let answered = answer(rt, alloc, &mut input, &mut out, options.workers, &OpenGate);
     host.take_back(input);
     match answered {
-        Ok(outcome) => flush(out, outcome),
-        Err(ReportError::ReadFailed) => Err(CommandError::ReadFailed),
-        Err(ReportError::WriteFailed) => Err(CommandError::WriteFailed),
-        Err(ReportError::OutOfMemory) => Err(CommandError::OutOfMemory),
+        Ok(outcome) => Ok(Answer {
+            outcome,
+            text: out.into_written(),
+        }),
+        Err(ReportError::ReadFailed) => Err(CommandStop::Failed(CommandError::ReadFailed)),
+        // A sink in memory fails only where there is none.
+        Err(ReportError::WriteFailed | ReportError::OutOfMemory) => {
+            Err(CommandStop::Failed(CommandError::OutOfMemory))
+        }
     }
 }

@@ -1,6 +1,6 @@
 //! The command `live`.
 ghost use Rattle.std.specs.Prelude.{◌∷◌, [], IfErr, IfOk, string_bytes};
-ghost use Rattle.inputs.specs.Inputs.{CanRead, ReadsNamed};
+ghost use Rattle.inputs.specs.Inputs.{ReadsNamed};
 ghost use Rattle.live.specs.Driven.{IsDriveError};
 ghost use Rattle.commands.specs.Run.{IsLive, IsLiveAnswer, IsLiveStop};
 
@@ -51,7 +51,6 @@ pub fn live_command<R: Threads + Wait + Sync, H: Host>(
     options: &LiveOptions,
     host: &mut H,
 ) -> Result<Answer, CommandStop>
-    requires { CanRead (H.log host.old).tally }
     ensures ok { IfOk result (IsLive (H.bytes host.old) options.now) }
     ensures err { IfErr result (IsLiveStop (H.bytes host.old) options.now) }
     ensures reads { ReadsNamed (string_bytes options.now.program ∷ []) (H.log host.old) (H.log host.new) result }

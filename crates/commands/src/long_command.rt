@@ -1,6 +1,6 @@
 //! The command `judge --long`.
 ghost use Rattle.std.specs.Prelude.{◌∷◌, [], IfErr, IfOk, string_bytes};
-ghost use Rattle.inputs.specs.Inputs.{CanRead, IsInputError, ReadsNamed};
+ghost use Rattle.inputs.specs.Inputs.{IsInputError, ReadsNamed};
 ghost use Rattle.inputs.specs.Refusal.{IsFailure};
 ghost use Rattle.commands.specs.Judge.{IsLongFileAnswer};
 
@@ -16,7 +16,6 @@ pub fn long_command<H: Host>(
     options: &FileOptions,
     host: &mut H,
 ) -> Result<Answer, CommandStop>
-    requires { CanRead (H.log host.old).tally }
     ensures ok { IfOk result (IsLongFileAnswer (H.bytes host.old) options.now) }
     ensures err { IfErr result (IsFailure (IsInputError (H.bytes host.old) (string_bytes options.now.file))) }
     ensures reads { ReadsNamed (string_bytes options.now.file ∷ []) (H.log host.old) (H.log host.new) result }

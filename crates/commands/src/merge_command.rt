@@ -2,7 +2,7 @@
 ghost use Rattle.std.specs.Prelude.{◌≡◌, ◌<◌, ◌++◌, [], IfErr, IfOk, OnOk, false, length, map, slice_index_or};
 ghost use Rattle.std.specs.Prelude.{string_bytes, true};
 ghost use Rattle.std.specs.List.{AllZip};
-ghost use Rattle.inputs.specs.Inputs.{AreBytesOf, CanRead, ReadsNamed};
+ghost use Rattle.inputs.specs.Inputs.{AreBytesOf, ReadsNamed};
 ghost use Rattle.commands.specs.Merge.{IsErrorAmong, IsJoinAnswer, IsJoinedAnswer, IsMergeAnswer, IsMerged};
 ghost use Rattle.commands.specs.Merge.{IsMergedAnswer, IsMergeStop, IsTextsStop, gap_line, gaps_of, is_headed};
 ghost use Rattle.commands.specs.Merge.{join_line, merge_head, other_line, overlap_line, text_line};
@@ -28,7 +28,6 @@ fn texts_at<H: Host>(
     host: &mut H,
     names: &[String],
 ) -> Result<Vec<Vec<u8>>, CommandStop>
-    requires { CanRead (H.log host.old).tally }
     ensures ok { IfOk result (λ texts. AllZip (AreBytesOf (H.bytes host.old)) (map string_bytes names.now)
         (map (λ v. v.items) texts.items)) }
     ensures err { IfErr result (IsFailure (IsErrorAmong (H.bytes host.old) (map string_bytes names.now))) }
@@ -347,7 +346,6 @@ pub fn merge_command<H: Host>(
     host: &mut H,
 ) -> Result<Answer, CommandStop>
     requires some { 0 < length options.now.files.items }
-    requires inputs { CanRead (H.log host.old).tally }
     ensures ok { IfOk result (IsMerged (H.bytes host.old) options.now) }
     ensures err { IfErr result (IsMergeStop (H.bytes host.old) options.now) }
     ensures reads { ReadsNamed (map string_bytes options.now.files.items) (H.log host.old) (H.log host.new) result }

@@ -1,6 +1,6 @@
 //! The command `outcomes`.
 ghost use Rattle.std.specs.Prelude.{◌≡◌, ◌∷◌, [], IfErr, IfOk, Ok, string_bytes};
-ghost use Rattle.inputs.specs.Inputs.{CanRead, ReadsNamed};
+ghost use Rattle.inputs.specs.Inputs.{ReadsNamed};
 ghost use Rattle.outcome_texts.specs.ObservedLine.{condition_of};
 ghost use Rattle.commands.specs.Outcomes.{IsConditionStop, IsConditioned, IsLogAt, IsLogStop, IsOutcomes};
 ghost use Rattle.commands.specs.Outcomes.{IsOutcomesStop, IsQuestionAnswer, IsQuestionStop, IsShownOutcome, item_line};
@@ -24,7 +24,6 @@ fn log_at<H: Host>(
     name: &str,
     host: &mut H,
 ) -> Result<Vec<SeenLine>, CommandStop>
-    requires { CanRead (H.log host.old).tally }
     ensures ok { IfOk result (λ lines. IsLogAt (H.bytes host.old) name.now program.now lines.items) }
     ensures err { IfErr result (λ stop. IsLogStop (H.bytes host.old) name.now stop program.now) }
     ensures reads { ReadsNamed (name.now ∷ []) (H.log host.old) (H.log host.new) result }
@@ -87,7 +86,6 @@ fn question_answer<H: Host>(
     question: &Question,
     host: &mut H,
 ) -> Result<Answer, CommandStop>
-    requires { CanRead (H.log host.old).tally }
     ensures ok { IfOk result (IsQuestionAnswer (H.bytes host.old) program.now states question.now) }
     ensures err { IfErr result
         (λ stop. IsQuestionStop (H.bytes host.old) question.now stop program.now) }
@@ -119,7 +117,6 @@ pub fn outcomes_command<H: Host>(
     options: &OutcomesOptions,
     host: &mut H,
 ) -> Result<Answer, CommandStop>
-    requires { CanRead (H.log host.old).tally }
     ensures ok { IfOk result (IsOutcomes (H.bytes host.old) options.now) }
     ensures err { IfErr result (IsOutcomesStop (H.bytes host.old) options.now) }
     ensures reads { ReadsNamed (string_bytes options.now.program ∷ question_names options.now.question)

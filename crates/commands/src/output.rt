@@ -1,21 +1,20 @@
-//! Answers as they are written.
+//! Outputs as they are written.
 ghost use Rattle.std.specs.Prelude.{◌≡◌, IfErr, IfOk};
 ghost use Rattle.std.specs.Io.KnownBytes.{Keeps};
-ghost use Rattle.devices.specs.Bytes.{CanGrow, CountsBy};
-ghost use Rattle.inputs.specs.Inputs.{command_failed_writes};
-ghost use Rattle.commands.specs.Perform.{Puts};
+ghost use Rattle.devices.specs.Bytes.{FailsBy};
+ghost use Rattle.inputs.specs.Inputs.{is_write_failure};
+ghost use Rattle.commands.specs.Perform.{IsWritten};
 
 use devices::{Failed, Sink, write_all};
 use inputs::CommandError;
 use report::{Answer, Outcome};
 
-/// Flushes what was written of an answer. Answers its outcome.
-pub fn flush<W: Sink>(out: &mut W, outcome: Outcome) -> Result<Outcome, CommandError>
-    requires { CanGrow (W.write_failures out.old) }
+/// Flushes what was written of an output. Answers its outcome.
+fn flush<W: Sink>(out: &mut W, outcome: Outcome) -> Result<Outcome, CommandError>
     ensures outcome { IfOk result (λ came. came ≡ outcome) }
     ensures kept { Keeps (W.written out.old) (W.written out.new) }
     ensures error { IfErr result (λ error. error ≡ CommandError.WriteFailed) }
-    ensures writes { CountsBy command_failed_writes (W.write_failures out.old) (W.write_failures out.new) result }
+    ensures writes { FailsBy is_write_failure (W.write_failed out.old) (W.write_failed out.new) result }
 {
     match out.flush() {
         Ok(()) => Ok(outcome),
@@ -23,15 +22,14 @@ pub fn flush<W: Sink>(out: &mut W, outcome: Outcome) -> Result<Outcome, CommandE
     }
 }
 
-/// Writes the text of an answer and flushes it. Answers its outcome.
-pub fn put<W: Sink>(out: &mut W, answer: &Answer) -> Result<Outcome, CommandError>
-    requires { CanGrow (W.write_failures out.old) }
-    ensures written { Puts (λ a. a ≡ answer.now) (W.written out.old) (W.written out.new) result }
+/// Writes an output and flushes it. Answers its outcome.
+pub fn write_output<W: Sink>(out: &mut W, output: &Answer) -> Result<Outcome, CommandError>
+    ensures written { IsWritten output.now (W.written out.old) (W.written out.new) result }
     ensures error { IfErr result (λ error. error ≡ CommandError.WriteFailed) }
-    ensures writes { CountsBy command_failed_writes (W.write_failures out.old) (W.write_failures out.new) result }
+    ensures writes { FailsBy is_write_failure (W.write_failed out.old) (W.write_failed out.new) result }
 {
-    match write_all(out, &answer.text) {
-        Ok(()) => flush(out, answer.outcome),
+    match write_all(out, &output.text) {
+        Ok(()) => flush(out, output.outcome),
         Err(Failed) => Err(CommandError::WriteFailed),
     }
 }

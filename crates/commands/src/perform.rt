@@ -2,12 +2,12 @@
 ghost use Rattle.std.specs.Prelude.{◌≡◌, ◌≢◌, ◌++◌, ◌∷◌, [], Err, IfErr, IfNone, IfOk, IfSome, List, Option, map, string_bytes};
 ghost use Rattle.clap.specs.Words.{Row, Text};
 ghost use Rattle.command_line.specs.Options.{AreOptions};
-ghost use Rattle.devices.specs.Bytes.{CanGrow, CountsBy};
-ghost use Rattle.inputs.specs.Inputs.{CanRead, ReadsNamed, command_failed_writes};
+ghost use Rattle.devices.specs.Bytes.{FailsBy};
+ghost use Rattle.inputs.specs.Inputs.{ReadsNamed, is_write_failure};
 ghost use Rattle.commands.specs.Command.{IsAnswerTo, IsCommandStop, input_names};
 ghost use Rattle.command_line.specs.Commands.{command_of};
-ghost use Rattle.commands.specs.Perform.{IsErrorFor, IsErrorOf, IsNoJudge, IsShown, IsWithoutOptions, IsWritten};
-ghost use Rattle.commands.specs.Perform.{PrintsAtOnce, PrintsEarly, Tallies};
+ghost use Rattle.commands.specs.Perform.{IsErrorFor, IsErrorOf, IsOutputOf, IsWithoutOptions, IsWrittenFor};
+ghost use Rattle.commands.specs.Perform.{WritesAtOnce, WritesEarly, Tallies};
 ghost use Rattle.commands.specs.Survey.{TellsEach};
 
 use crate::complete_command::complete_command;
@@ -17,7 +17,7 @@ use crate::long_command::long_command;
 use crate::make_command::make_command;
 use crate::merge_command::merge_command;
 use crate::outcomes_command::outcomes_command;
-use crate::output::put;
+use crate::output::write_output;
 use crate::render_command::render_command;
 use crate::replay_command::replay_command;
 use crate::run_command::run_command;
@@ -26,7 +26,7 @@ use crate::trials_command::trials_command;
 use crate::verify_command::verify_command;
 use answers::Rendering;
 use command_line::words::options;
-use command_line::{JudgeOptions, OptionStop, Options, REFUSAL_MEANINGS, SurveyOptions};
+use command_line::{OptionStop, Options, REFUSAL_MEANINGS, SurveyOptions};
 use devices::{Host, Sink};
 use inputs::{CommandError, CommandStop, PrintedRefusal, option_refusal};
 use report::{Answer, Outcome};
@@ -34,7 +34,7 @@ use std::alloc::Global;
 use std::sync::Wait;
 use std::thread::Threads;
 
-/// The line that says what a refusal means, as it is printed.
+/// The line that says what a refusal means.
 fn meaning_answer(alloc: Global, line: &[u8]) -> Result<Answer, CommandStop>
     ensures ok { IfOk result (λ answer. (answer.outcome ≡ Outcome.Done) × (answer.text.items ≡ line.now ++ 10 ∷ [])) }
     ensures err { IfErr result (λ stop. stop ≡ CommandStop.Failed CommandError.OutOfMemory) }
@@ -75,8 +75,7 @@ fn without_options(alloc: Global, stop: OptionStop) -> Result<Answer, CommandSto
     }
 }
 
-/// What the command answers that these options ask for, which are not those of `judge` without `--long`, or of a survey that tells each
-/// recording.
+/// What the command answers that these options ask for, which are not those of a survey that tells each recording.
 fn answer_to<R: Threads + Wait + Sync, H: Host>(
     rt: &R,
     alloc: Global,
@@ -84,16 +83,14 @@ fn answer_to<R: Threads + Wait + Sync, H: Host>(
     host: &mut H,
 ) -> Result<Answer, CommandStop>
     requires options { (command : Option (Text × List Row)) × AreOptions options.now command }
-    requires told { IsNoJudge options.now }
-    requires whole { PrintsEarly options.now → ⊥ }
-    requires inputs { CanRead (H.log host.old).tally }
+    requires whole { WritesEarly options.now → ⊥ }
     ensures ok { IfOk result (IsAnswerTo (H.bytes host.old) options.now) }
     ensures err { IfErr result (IsCommandStop (H.bytes host.old) options.now) }
     ensures reads { ReadsNamed (input_names options.now) (H.log host.old) (H.log host.new) result }
 {
     match options {
         Options::Run(run) => run_command(rt, alloc, run, host),
-        Options::Judge(_) => unreachable!(),
+        Options::Judge(judge) => judge_command(rt, alloc, judge, host),
         Options::JudgeLong(long) => long_command(alloc, long, host),
         Options::Trials(trials) => trials_command(rt, alloc, trials, host),
         Options::Live(live) => live_command(rt, alloc, live, host),
@@ -113,13 +110,12 @@ fn answer_to<R: Threads + Wait + Sync, H: Host>(
     }
 }
 
-/// What the command answers or why it stops, as what is printed. The host is shown the line of an input that is
-/// refused.
-fn shown<H: Host>(
+/// The output of what is answered. The host is shown the line of an input that is refused.
+fn output_of<H: Host>(
     host: &mut H,
     answered: Result<Answer, CommandStop>,
 ) -> Result<Answer, CommandError>
-    ensures ok { IfOk result (IsShown answered) }
+    ensures ok { IfOk result (IsOutputOf answered) }
     ensures err { IfErr result (λ error. answered ≡ Err (CommandStop.Failed error)) }
     ensures log { H.log host.new ≡ H.log host.old }
 {
@@ -138,21 +134,10 @@ fn shown<H: Host>(
     }
 }
 
-/// The options of `judge` without `--long`, where these are its.
-fn judging(options: &Options) -> Option<&JudgeOptions>
-    ensures some { IfSome result (λ o. options.now ≡ Options.Judge o.now) }
-    ensures none { IfNone result (IsNoJudge options.now) }
-{
-    match options {
-        Options::Judge(judge) => Some(judge),
-        _ => None,
-    }
-}
-
 /// The options of `survey`, where these are its and each recording is reported.
-fn telling_each(options: &Options) -> Option<&SurveyOptions>
+fn survey_of_each(options: &Options) -> Option<&SurveyOptions>
     ensures some { IfSome result (λ o. (options.now ≡ Options.Survey o.now) × TellsEach o.now) }
-    ensures none { IfNone result (PrintsEarly options.now → ⊥) }
+    ensures none { IfNone result (WritesEarly options.now → ⊥) }
 {
     match options {
         Options::Survey(survey) if survey.each && survey.show.is_none() => Some(survey),
@@ -160,8 +145,8 @@ fn telling_each(options: &Options) -> Option<&SurveyOptions>
     }
 }
 
-/// Prints what these options ask for.
-fn performed<R: Threads + Wait + Sync, H: Host, W: Sink>(
+/// Writes what these options ask for.
+fn perform_options<R: Threads + Wait + Sync, H: Host, W: Sink>(
     rt: &R,
     alloc: Global,
     options: &Options,
@@ -169,25 +154,20 @@ fn performed<R: Threads + Wait + Sync, H: Host, W: Sink>(
     out: &mut W,
 ) -> Result<Outcome, CommandError>
     requires options { (command : Option (Text × List Row)) × AreOptions options.now command }
-    requires inputs { CanRead (H.log host.old).tally }
-    requires output { CanGrow (W.write_failures out.old) }
-    ensures written { (words : List Text) → AreOptions options.now (command_of words) → IsWritten (H.bytes host.old)
+    ensures written { (words : List Text) → AreOptions options.now (command_of words) → IsWrittenFor (H.bytes host.old)
         words (H.log host.old) (H.log host.new) (W.written out.old) (W.written out.new) result }
     ensures error { IfErr result (IsErrorFor (H.bytes host.old) options.now (H.log host.old) (H.log host.new)) }
     ensures reads { Tallies (H.log host.old).tally (H.log host.new).tally result }
-    ensures writes { CountsBy command_failed_writes (W.write_failures out.old) (W.write_failures out.new) result }
-    ensures unwritten { IfErr result (λ error. error ≢ CommandError.WriteFailed → (PrintsEarly options.now → ⊥)
+    ensures writes { FailsBy is_write_failure (W.write_failed out.old) (W.write_failed out.new) result }
+    ensures unwritten { IfErr result (λ error. error ≢ CommandError.WriteFailed → (WritesEarly options.now → ⊥)
         → out.new ≡ out.old) }
 {
-    if let Some(judge) = judging(options) {
-        return judge_command(rt, alloc, judge, host, out);
-    }
-    if let Some(survey) = telling_each(options) {
+    if let Some(survey) = survey_of_each(options) {
         return each_command(rt, alloc, survey, host, out);
     }
     let answered = answer_to(rt, alloc, options, host);
-    let answer = shown(host, answered)?;
-    put(out, &answer)
+    let output = output_of(host, answered)?;
+    write_output(out, &output)
 }
 
 /// Does what the words ask and writes what the command prints. Answers the outcome. The words
@@ -201,23 +181,21 @@ pub fn perform<R: Threads + Wait + Sync, H: Host, W: Sink>(
     host: &mut H,
     out: &mut W,
 ) -> Result<Outcome, CommandError>
-    requires inputs { CanRead (H.log host.old).tally }
-    requires output { CanGrow (W.write_failures out.old) }
-    ensures written { IsWritten (H.bytes host.old) (map string_bytes words.now) (H.log host.old) (H.log host.new)
+    ensures written { IsWrittenFor (H.bytes host.old) (map string_bytes words.now) (H.log host.old) (H.log host.new)
         (W.written out.old) (W.written out.new) result }
     ensures error { IfErr result (IsErrorOf (H.bytes host.old) (map string_bytes words.now)
         (H.log host.old) (H.log host.new)) }
     ensures reads { Tallies (H.log host.old).tally (H.log host.new).tally result }
-    ensures writes { CountsBy command_failed_writes (W.write_failures out.old) (W.write_failures out.new) result }
+    ensures writes { FailsBy is_write_failure (W.write_failed out.old) (W.write_failed out.new) result }
     // An error leaves the sink as it was, unless a write failed or lines of recordings came before it.
     ensures unwritten { IfErr result (λ error. error ≢ CommandError.WriteFailed
-        → PrintsAtOnce (map string_bytes words.now) → out.new ≡ out.old) }
+        → WritesAtOnce (map string_bytes words.now) → out.new ≡ out.old) }
 {
     match options(alloc, words) {
-        Ok(options) => performed(rt, alloc, &options, host, out),
+        Ok(options) => perform_options(rt, alloc, &options, host, out),
         Err(stop) => {
-            let answer = shown(host, without_options(alloc, stop))?;
-            put(out, &answer)
+            let output = output_of(host, without_options(alloc, stop))?;
+            write_output(out, &output)
         }
     }
 }

@@ -2,7 +2,7 @@
 ghost use Rattle.std.specs.Prelude.{◌≡◌, IfErr, IfOk, IfSome, option_map, string_bytes};
 ghost use Rattle.recording.specs.Recording.{IsRecordingWithin};
 ghost use Rattle.machine.specs.ProgramOf.{IsProgramOf};
-ghost use Rattle.inputs.specs.Inputs.{CanRead, ReadsNamed};
+ghost use Rattle.inputs.specs.Inputs.{ReadsNamed};
 ghost use Rattle.commands.specs.Command.{maybe_name, render_names};
 ghost use Rattle.commands.specs.Render.{AreLabelsGiven, IsLabellingStop, IsNamesStop, IsProgramGiven, IsRendered};
 ghost use Rattle.commands.specs.Render.{IsRenderingOf, IsRenderingStop};
@@ -26,7 +26,6 @@ fn program_given<H: Host>(
     name: &Option<String>,
     host: &mut H,
 ) -> Result<Option<Program>, CommandStop>
-    requires { CanRead (H.log host.old).tally }
     ensures ok { IfOk result (IsProgramGiven (H.bytes host.old) (option_map string_bytes name.now) recording.now) }
     ensures err { IfErr result
         (λ stop. IsNamesStop (H.bytes host.old) (option_map string_bytes name.now) stop recording.now) }
@@ -51,7 +50,6 @@ fn labels_given<H: Host>(
     name: &Option<String>,
     host: &mut H,
 ) -> Result<Labels, CommandStop>
-    requires { CanRead (H.log host.old).tally }
     ensures ok { IfOk result (AreLabelsGiven (H.bytes host.old) (option_map string_bytes name.now) recording.now) }
     ensures err { IfErr result
         (λ stop. IsLabellingStop (H.bytes host.old) (option_map string_bytes name.now) stop recording.now) }
@@ -90,7 +88,6 @@ pub fn render_command<H: Host>(
     options: &ExplainOptions,
     host: &mut H,
 ) -> Result<Answer, CommandStop>
-    requires { CanRead (H.log host.old).tally }
     ensures ok { IfOk result (IsRendered (H.bytes host.old) rendering options.now) }
     ensures err { IfErr result (IsRenderingStop (H.bytes host.old) options.now) }
     ensures reads { ReadsNamed (render_names options.now) (H.log host.old) (H.log host.new) result }

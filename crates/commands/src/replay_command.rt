@@ -5,7 +5,7 @@ ghost use Rattle.verdicts.specs.Verified.{Verifies};
 ghost use Rattle.recording.specs.Tso.{IsTsoOrder};
 ghost use Rattle.recording.specs.FirstUse.{IsNumberedByFirstUse};
 ghost use Rattle.recording.specs.Recording.{IsShortRecording};
-ghost use Rattle.inputs.specs.Inputs.{CanRead, ReadsNamed};
+ghost use Rattle.inputs.specs.Inputs.{ReadsNamed};
 ghost use Rattle.commands.specs.Replay.{IsReplayedInput, IsReplayOf, IsReplayStop, IsReplayText, parts_text};
 
 use command_line::FileOptions;
@@ -90,7 +90,6 @@ pub fn replay_command<H: Host>(
     options: &FileOptions,
     host: &mut H,
 ) -> Result<Answer, CommandStop>
-    requires { CanRead (H.log host.old).tally }
     ensures ok { IfOk result (IsReplayedInput (H.bytes host.old) options.now) }
     ensures err { IfErr result (IsReplayStop (H.bytes host.old) options.now) }
     ensures reads { ReadsNamed (string_bytes options.now.file ∷ []) (H.log host.old) (H.log host.new) result }

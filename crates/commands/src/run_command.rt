@@ -2,7 +2,7 @@
 ghost use Rattle.std.specs.Prelude.{◌∷◌, [], IfErr, IfOk, List, option_map, string_bytes};
 ghost use Rattle.clap.specs.Words.{Row};
 ghost use Rattle.command_line.specs.Options.{AreRunOptions};
-ghost use Rattle.inputs.specs.Inputs.{CanRead, ReadsNamed};
+ghost use Rattle.inputs.specs.Inputs.{ReadsNamed};
 ghost use Rattle.commands.specs.Command.{input_names, script_name};
 ghost use Rattle.command_line.specs.declared.options.Options.{Options};
 ghost use Rattle.commands.specs.Run.{IsRun, IsRunStop, IsScriptAnswer, IsScriptStop};
@@ -26,7 +26,6 @@ fn script_run<H: Host>(
     name: &str,
     host: &mut H,
 ) -> Result<Answer, CommandStop>
-    requires { CanRead (H.log host.old).tally }
     ensures ok { IfOk result (IsScriptAnswer (H.bytes host.old) options.now program name.now) }
     ensures err { IfErr result (λ stop. IsScriptStop (H.bytes host.old) name.now stop program) }
     ensures reads { ReadsNamed (name.now ∷ []) (H.log host.old) (H.log host.new) result }
@@ -56,7 +55,6 @@ pub fn run_command<R: Threads + Sync, H: Host>(
     host: &mut H,
 ) -> Result<Answer, CommandStop>
     requires options { (rows : List Row) × AreRunOptions options.now rows }
-    requires inputs { CanRead (H.log host.old).tally }
     ensures ok { IfOk result (IsRun (H.bytes host.old) options.now) }
     ensures err { IfErr result
         (IsRunStop (H.bytes host.old) options.now

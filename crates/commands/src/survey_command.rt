@@ -1,14 +1,14 @@
 //! The command `survey`.
 ghost use Rattle.std.specs.Prelude.{◌≡◌, ◌≢◌, ◌∷◌, [], IfErr, IfOk, List, string_bytes, true};
 ghost use Rattle.std.specs.Io.KnownBytes.{Appends};
-ghost use Rattle.devices.specs.Bytes.{CanGrow, CountsBy};
+ghost use Rattle.devices.specs.Bytes.{FailsBy};
 ghost use Rattle.surveys.specs.Surveys.{told_text};
-ghost use Rattle.inputs.specs.Inputs.{CanRead, ReadsNamed, ReadsInput, command_failed_writes};
+ghost use Rattle.inputs.specs.Inputs.{ReadsNamed, ReadsInput, is_write_failure};
 ghost use Rattle.commands.specs.Survey.{IsCountsAnswer, IsEachError, IsEachWritten, IsShown, IsSurveyed, IsSurveyOf};
 ghost use Rattle.commands.specs.Survey.{IsSurveyStop, TellsEach, line_kind, lines_counted, range_of, survey_header};
 
 use crate::headed::headed;
-use crate::output::put;
+use crate::output::write_output;
 use answers::{line_answer, survey_answer, values_survey_answer};
 use command_line::SurveyOptions;
 use common::OutOfMemory;
@@ -106,14 +106,12 @@ fn counted<R: Threads + Wait + Sync, H: Host, W: Sink>(
     out: &mut W,
     each: bool,
 ) -> Result<SurveyLedger, CommandError>
-    requires inputs { CanRead (H.log host.old).tally }
-    requires output { CanGrow (W.write_failures out.old) }
     ensures ok { IfOk result (λ ledger. (findings : List Finding)
         × IsSurveyed (H.bytes host.old) options.now findings ledger
         × Appends (W.written out.old) (W.written out.new) (told_text each 0 findings)) }
     ensures error { IfErr result (IsEachError (H.bytes host.old) options.now) }
     ensures reads { ReadsInput (string_bytes options.now.file) (H.log host.old) (H.log host.new) result }
-    ensures writes { CountsBy command_failed_writes (W.write_failures out.old) (W.write_failures out.new) result }
+    ensures writes { FailsBy is_write_failure (W.write_failed out.old) (W.write_failed out.new) result }
     ensures silent { each ≢ true → out.new ≡ out.old }
 {
     let input = opened(alloc, host, options.file.as_str())?;
@@ -151,17 +149,15 @@ pub fn each_command<R: Threads + Wait + Sync, H: Host, W: Sink>(
     out: &mut W,
 ) -> Result<Outcome, CommandError>
     requires told { TellsEach options.now }
-    requires inputs { CanRead (H.log host.old).tally }
-    requires output { CanGrow (W.write_failures out.old) }
     ensures whole { IfOk result (IsEachWritten (H.bytes host.old) options.now (W.written out.old)
         (W.written out.new)) }
     ensures error { IfErr result (IsEachError (H.bytes host.old) options.now) }
     ensures reads { ReadsInput (string_bytes options.now.file) (H.log host.old) (H.log host.new) result }
-    ensures writes { CountsBy command_failed_writes (W.write_failures out.old) (W.write_failures out.new) result }
+    ensures writes { FailsBy is_write_failure (W.write_failed out.old) (W.write_failed out.new) result }
 {
     let ledger = counted(rt, alloc, options, host, out, true)?;
     let counts = counts_answer(alloc, options.complete, &ledger, true)?;
-    put(out, &counts)
+    write_output(out, &counts)
 }
 
 /// Counts the recordings of the named input, or answers one of them.
@@ -172,7 +168,6 @@ pub fn survey_command<R: Threads + Wait + Sync, H: Host>(
     host: &mut H,
 ) -> Result<Answer, CommandStop>
     requires told { TellsEach options.now → ⊥ }
-    requires inputs { CanRead (H.log host.old).tally }
     ensures ok { IfOk result (IsSurveyOf (H.bytes host.old) options.now options.now.show) }
     ensures err { IfErr result (IsSurveyStop (H.bytes host.old) options.now options.now.show) }
     ensures reads { ReadsNamed (string_bytes options.now.file ∷ []) (H.log host.old) (H.log host.new) result }

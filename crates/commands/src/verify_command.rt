@@ -1,6 +1,6 @@
 //! The command `verify`.
 ghost use Rattle.std.specs.Prelude.{◌∷◌, [], IfErr, IfOk, string_bytes};
-ghost use Rattle.inputs.specs.Inputs.{CanRead, ReadsNamed};
+ghost use Rattle.inputs.specs.Inputs.{ReadsNamed};
 ghost use Rattle.recording.specs.Recording.{IsRecordingWithin};
 ghost use Rattle.verification.specs.Checked.{IsCheckAnswer};
 ghost use Rattle.commands.specs.Judge.{IsProofOf, IsVerified, IsVerifyStop};
@@ -41,7 +41,6 @@ pub fn verify_command<R: Threads + Wait + Sync, H: Host>(
     options: &VerifyOptions,
     host: &mut H,
 ) -> Result<Answer, CommandStop>
-    requires { CanRead (H.log host.old).tally }
     ensures ok { IfOk result (IsVerified (H.bytes host.old) options.now) }
     ensures err { IfErr result (IsVerifyStop (H.bytes host.old) options.now) }
     ensures reads { ReadsNamed (string_bytes options.now.recording ∷ string_bytes options.now.verdict ∷ [])

@@ -1,24 +1,19 @@
 -- What reading from a source and writing to a sink do.
-use Rattle.std.specs.Prelude.{◌≡◌, ◌<◌, ◌↔◌, ◌+◌, ◌-◌, ◌^◌, ◌++◌, ℕ, List, Option, Result, Ok, Err, Bool}
-use Rattle.std.specs.Prelude.{true}
+use Rattle.std.specs.Prelude.{◌≡◌, ◌<◌, ◌↔◌, ◌||◌, ◌++◌, ℕ, List, Option, Result, Ok, Err, Bool, true, false}
 use Rattle.std.specs.Prelude.{⊤, length}
 use Rattle.std.specs.Io.KnownBytes.{Consumes}
 use Rattle.devices.specs.declared.whole.ReadError.{ReadError}
 use Rattle.devices.specs.declared.whole.ReadError.TheVariants.{ReadFailed, OutOfMemory}
 
--- a count that can grow once more
-abbrev pub CanGrow : ℕ → Type 0
-CanGrow n = n < 2 ^ 64 - 1
+-- whether a call failed, after one more
+abbrev pub Fails : {X E : Type 0} → Bool → Bool → Result X E → Type 0
+Fails before after (Ok x) = after ≡ before
+Fails before after (Err failed) = after ≡ true
 
--- a count of failures after a call: one more exactly where it failed
-abbrev pub Counts : {X E : Type 0} → ℕ → ℕ → Result X E → Type 0
-Counts before after (Ok x) = after ≡ before
-Counts before after (Err failed) = after ≡ before + 1
-
--- a count of failures after a call whose error says how many failed
-abbrev pub CountsBy : {X E : Type 0} → (E → ℕ) → ℕ → ℕ → Result X E → Type 0
-CountsBy how_many before after (Ok x) = after ≡ before
-CountsBy how_many before after (Err error) = after ≡ before + how_many error
+-- whether a call failed, after some whose error says whether one did
+abbrev pub FailsBy : {X E : Type 0} → (E → Bool) → Bool → Bool → Result X E → Type 0
+FailsBy is_failure before after (Ok x) = after ≡ before
+FailsBy is_failure before after (Err error) = after ≡ (is_failure error || before)
 
 -- no byte is given exactly where the end is met, if there is room for one
 abbrev pub MeetsEnd : {E : Type 0} → Bool → Result ℕ E → List ℕ → Type 0
@@ -35,7 +30,7 @@ abbrev pub Gathers : Option (List ℕ) → Option (List ℕ) → List ℕ → Li
 Gathers left_before left_after before after =
     (more : List ℕ) × Consumes left_before left_after more × (after ≡ before ++ more)
 
--- how many reads failed where not all was read
-abbrev pub failed_reads : ReadError → ℕ
-failed_reads ReadFailed = 1
-failed_reads OutOfMemory = 0
+-- not all was read, since a read failed
+abbrev pub is_read_failure : ReadError → Bool
+is_read_failure ReadFailed = true
+is_read_failure OutOfMemory = false

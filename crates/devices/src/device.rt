@@ -9,7 +9,7 @@ use std::io::{Read, Write};
 pub struct Device<T> {
     inner: T,
     ended: bool,
-    failures: u64,
+    has_failed: bool,
 }
 
 impl<T> Device<T> {
@@ -19,12 +19,12 @@ impl<T> Device<T> {
     pub fn new(inner: T) -> Device<T>
         ensures inner { result.inner ≡ inner }
         ensures ended { result.ended ≡ false }
-        ensures failures { result.failures ≡ 0 }
+        ensures failed { result.has_failed ≡ false }
     {
         Device {
             inner,
             ended: false,
-            failures: 0,
+            has_failed: false,
         }
     }
 
@@ -35,11 +35,11 @@ impl<T> Device<T> {
         self.ended
     }
 
-    /// How many calls failed.
-    pub fn failures(&self) -> u64
-        ensures { result ≡ self.now.failures }
+    /// Whether a call failed.
+    pub fn has_failed(&self) -> bool
+        ensures { result ≡ self.now.has_failed }
     {
-        self.failures
+        self.has_failed
     }
 
     /// The reader or writer.
@@ -56,7 +56,7 @@ impl<T: Read> Source for Device<T> {
 
     ghost is_ended = { λ d. d.ended };
 
-    ghost read_failures = { λ d. d.failures };
+    ghost read_failed = { λ d. d.has_failed };
 
     fn pull(&mut self, buf: &mut [u8]) -> Result<usize, Failed> {
         match self.inner.read(buf) {
@@ -65,7 +65,7 @@ impl<T: Read> Source for Device<T> {
                 Ok(n)
             }
             Err(_) => {
-                self.failures += 1;
+                self.has_failed = true;
                 Err(Failed)
             }
         }
@@ -75,13 +75,13 @@ impl<T: Read> Source for Device<T> {
 impl<T: Write> Sink for Device<T> {
     ghost written = { λ d. T.contents d.inner };
 
-    ghost write_failures = { λ d. d.failures };
+    ghost write_failed = { λ d. d.has_failed };
 
     fn push(&mut self, text: &[u8]) -> Result<usize, Failed> {
         match self.inner.write(text) {
             Ok(n) if n > 0 || text.is_empty() => Ok(n),
             _ => {
-                self.failures += 1;
+                self.has_failed = true;
                 Err(Failed)
             }
         }
@@ -91,7 +91,7 @@ impl<T: Write> Sink for Device<T> {
         match self.inner.flush() {
             Ok(()) => Ok(()),
             Err(_) => {
-                self.failures += 1;
+                self.has_failed = true;
                 Err(Failed)
             }
         }

@@ -41,19 +41,19 @@ pub struct Disk<'a> {
 }
 
 impl<'a> Disk<'a> {
-    ghost use Rattle.std.specs.Prelude.{◌≡◌};
+    ghost use Rattle.std.specs.Prelude.{◌≡◌, false};
 
     /// The files of a runtime, of which none is opened, and its standard input, or this text.
     pub fn new(rt: &'a HostRuntime, text: Option<&'a [u8]>) -> Disk<'a>
-        ensures { result.tally ≡ record { lent = 0; failed = 0; unended = 0 } }
+        ensures { result.tally ≡ record { is_lent = false; has_failed = false; is_unended = false } }
     {
         Disk {
             rt,
             text,
             tally: Tally {
-                lent: 0,
-                failed: 0,
-                unended: 0,
+                is_lent: false,
+                has_failed: false,
+                is_unended: false,
             },
             line: None,
             asked: None,
@@ -121,16 +121,12 @@ impl<'a> Host for Disk<'a> {
 
     fn input(&mut self, name: &str) -> Result<Device<Opened<'a>>, InputError> {
         let opened = self.opened(name)?;
-        self.tally.lent += 1;
+        self.tally.lend();
         Ok(Device::new(opened))
     }
 
     fn take_back(&mut self, input: Device<Opened<'a>>) {
-        self.tally.lent -= 1;
-        self.tally.failed += input.failures();
-        if !input.is_ended() {
-            self.tally.unended += 1;
-        }
+        self.tally.take_back(input.is_ended(), input.has_failed());
     }
 
     fn progress(&self, trials: Option<usize>, is_quiet: bool) -> Progress<'a> {

@@ -10,7 +10,7 @@ pub struct MemorySource<'a> {
     rest: &'a [u8],
     before_failing: usize,
     ended: bool,
-    failures: u64,
+    has_failed: bool,
 }
 
 impl<'a> MemorySource<'a> {
@@ -21,7 +21,7 @@ impl<'a> MemorySource<'a> {
         ensures rest { result.rest ≡ bytes.entry }
         ensures fails { result.before_failing ≡ 18446744073709551615 }
         ensures ended { result.ended ≡ false }
-        ensures failures { result.failures ≡ 0 }
+        ensures failed { result.has_failed ≡ false }
     {
         MemorySource::failing(bytes, usize::MAX)
     }
@@ -31,13 +31,13 @@ impl<'a> MemorySource<'a> {
         ensures rest { result.rest ≡ bytes.entry }
         ensures fails { result.before_failing ≡ before_failing }
         ensures ended { result.ended ≡ false }
-        ensures failures { result.failures ≡ 0 }
+        ensures failed { result.has_failed ≡ false }
     {
         MemorySource {
             rest: bytes,
             before_failing,
             ended: false,
-            failures: 0,
+            has_failed: false,
         }
     }
 }
@@ -49,11 +49,11 @@ impl Source for MemorySource<'_> {
 
     ghost is_ended = { λ s. s.ended };
 
-    ghost read_failures = { λ s. s.failures };
+    ghost read_failed = { λ s. s.has_failed };
 
     fn pull(&mut self, buf: &mut [u8]) -> Result<usize, Failed> {
         if self.before_failing == 0 {
-            self.failures += 1;
+            self.has_failed = true;
             return Err(Failed);
         }
         let room = buf.len().min(self.before_failing);
@@ -64,7 +64,7 @@ impl Source for MemorySource<'_> {
                 Ok(n)
             }
             Err(_) => {
-                self.failures += 1;
+                self.has_failed = true;
                 Err(Failed)
             }
         }
@@ -76,16 +76,16 @@ impl Source for MemorySource<'_> {
 pub struct MemorySink {
     written: Vec<u8>,
     before_failing: usize,
-    failures: u64,
+    has_failed: bool,
 }
 
 impl MemorySink {
-    ghost use Rattle.std.specs.Prelude.{◌≡◌, []};
+    ghost use Rattle.std.specs.Prelude.{◌≡◌, [], false};
 
     /// Nothing yet; all bytes are taken, while there is memory, which is tested.
     pub fn new(alloc: Global) -> MemorySink
         ensures written { result.written.items ≡ [] }
-        ensures failures { result.failures ≡ 0 }
+        ensures failed { result.has_failed ≡ false }
         ensures fails { result.before_failing ≡ 18446744073709551615 }
     {
         MemorySink::failing(alloc, usize::MAX)
@@ -94,13 +94,13 @@ impl MemorySink {
     /// Nothing yet; after this many bytes each write fails, which is tested.
     pub fn failing(alloc: Global, before_failing: usize) -> MemorySink
         ensures written { result.written.items ≡ [] }
-        ensures failures { result.failures ≡ 0 }
+        ensures failed { result.has_failed ≡ false }
         ensures fails { result.before_failing ≡ before_failing }
     {
         MemorySink {
             written: Vec::new(alloc),
             before_failing,
-            failures: 0,
+            has_failed: false,
         }
     }
 
@@ -110,6 +110,14 @@ impl MemorySink {
     {
         &self.written
     }
+
+    /// The bytes that were written, as a list of their own.
+    pub fn into_written(self) -> Vec<u8>
+        ensures { result ≡ self.written }
+    {
+        let MemorySink { written, .. } = self;
+        written
+    }
 }
 
 impl Sink for MemorySink {
@@ -117,12 +125,12 @@ impl Sink for MemorySink {
 
     ghost written = { λ s. Some s.written.items };
 
-    ghost write_failures = { λ s. s.failures };
+    ghost write_failed = { λ s. s.has_failed };
 
     fn push(&mut self, text: &[u8]) -> Result<usize, Failed> {
         let n = text.len().min(self.before_failing);
         if n < text.len().min(1) || self.written.extend_from_slice(&text[..n]).is_err() {
-            self.failures += 1;
+            self.has_failed = true;
             return Err(Failed);
         }
         self.before_failing -= n;

@@ -33,7 +33,7 @@ impl<T> Noted<T> {
 impl<T: Sink> Sink for Noted<T> {
     ghost written = { λ n. T.written n.inner };
 
-    ghost write_failures = { λ n. T.write_failures n.inner };
+    ghost write_failed = { λ n. T.write_failed n.inner };
 
     fn push(&mut self, text: &[u8]) -> Result<usize, Failed> {
         let n = self.inner.push(text)?;

@@ -2,7 +2,7 @@
 
 ghost use Rattle.std.specs.Prelude.{◌≡◌, ◌≢◌, ◌<◌, ◌+◌, ℕ, true, IfErr, IfOk, OnErr, OnOk, length, take};
 ghost use Rattle.std.specs.Io.KnownBytes.{Appends, Consumes, IsAtEnd};
-ghost use Rattle.devices.specs.Bytes.{CanGrow, Counts, CountsBy, Gathers, failed_reads};
+ghost use Rattle.devices.specs.Bytes.{Fails, FailsBy, Gathers, is_read_failure};
 
 use crate::bytes::{Failed, Sink, Source};
 use std::alloc::Global;
@@ -26,7 +26,6 @@ pub fn read_more<R: Source>(
     chunk: &mut [u8],
     bytes: &mut Vec<u8>,
 ) -> Result<usize, ReadError>
-    requires failures { CanGrow (R.read_failures source.old) }
     requires room { 0 < length chunk.old }
     ensures kept { length chunk.new ≡ length chunk.old }
     ensures gathered { OnOk result (Gathers (R.left source.old) (R.left source.new)
@@ -34,7 +33,7 @@ pub fn read_more<R: Source>(
     ensures number { IfOk result (λ n. length bytes.new.items ≡ length bytes.old.items + n) }
     ensures met { IfOk result (λ n. n ≡ 0 → R.is_ended source.new ≡ true) }
     ensures all { IfOk result (λ n. n ≡ 0 → IsAtEnd (R.left source.new)) }
-    ensures count { CountsBy failed_reads (R.read_failures source.old) (R.read_failures source.new) result }
+    ensures failed { FailsBy is_read_failure (R.read_failed source.old) (R.read_failed source.new) result }
 {
     match source.pull(chunk) {
         Ok(n) => {
@@ -49,11 +48,10 @@ pub fn read_more<R: Source>(
 
 /// All bytes that a source gives until its end. Fails if a read does, or out of memory.
 pub fn read_all<R: Source>(alloc: Global, source: &mut R) -> Result<Vec<u8>, ReadError>
-    requires { CanGrow (R.read_failures source.old) }
     ensures ok { IfOk result (λ bytes. Consumes (R.left source.old) (R.left source.new) bytes.items) }
     ensures met { OnOk result (R.is_ended source.new ≡ true) }
     ensures all { OnOk result (IsAtEnd (R.left source.new)) }
-    ensures count { CountsBy failed_reads (R.read_failures source.old) (R.read_failures source.new) result }
+    ensures failed { FailsBy is_read_failure (R.read_failed source.old) (R.read_failed source.new) result }
 {
     let mut bytes = Vec::new(alloc);
     let Ok(mut chunk) = Vec::from_elem(alloc, 0u8, CHUNK) else {
@@ -65,11 +63,10 @@ pub fn read_all<R: Source>(alloc: Global, source: &mut R) -> Result<Vec<u8>, Rea
 
 /// Writes all bytes of a text. Fails if a write does, after a beginning of the text.
 pub fn write_all<W: Sink>(sink: &mut W, text: &[u8]) -> Result<(), Failed>
-    requires { CanGrow (W.write_failures sink.old) }
     ensures ok { OnOk result (Appends (W.written sink.old) (W.written sink.new) text.now) }
     ensures err { OnErr result
         ((n : ℕ) × Appends (W.written sink.old) (W.written sink.new) (take n text.now)) }
-    ensures count { Counts (W.write_failures sink.old) (W.write_failures sink.new) result }
+    ensures failed { Fails (W.write_failed sink.old) (W.write_failed sink.new) result }
 {
     let mut at = 0;
     'parts: while at < text.len() {

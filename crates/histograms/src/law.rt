@@ -3,6 +3,6 @@
 ghost use Rattle.histograms.specs.OneHistogram.{EveryProgramHasOneHistogram};
 
 /// The random runs of a program have one histogram, however many workers make them. It does nothing.
-pub fn runs_have_one_histogram()
+pub(crate) fn runs_have_one_histogram()
     ensures { EveryProgramHasOneHistogram }
 {}

@@ -10,7 +10,6 @@ mod tally;
 mod text;
 
 pub use histogram::Histogram;
-pub use law::runs_have_one_histogram;
 pub use live_runs::{LiveRuns, live_histogram};
 pub use seeded_runs::{SeededRuns, seeded_histogram};
 pub use seen::Seen;

@@ -3,10 +3,11 @@
 ghost use Rattle.std.specs.Prelude.{◌≡◌, ◌+◌, ◌<◌, ◌^◌, ◌++◌, IfOk, List, Ok, OnOk, Option, length, map};
 ghost use Rattle.histograms.specs.declared.seen.Seen.{Seen};
 ghost use Rattle.histograms.specs.Histogram.{IsHistogram};
-ghost use Rattle.histograms.specs.OneHistogram.{IsHistogramOf};
+ghost use Rattle.histograms.specs.OneHistogram.{EveryProgramHasOneHistogram, IsHistogramOf};
 ghost use Rattle.histograms.specs.Runs.{AreMadeFrom, IsSeededRun};
 
 use crate::histogram::Histogram;
+use crate::law::runs_have_one_histogram;
 use crate::seen::{Seen, seen_of};
 use common::OutOfMemory;
 use machine::{Fault, Machine};
@@ -106,7 +107,8 @@ fn count(histogram: &mut Histogram, first: usize, slots: &mut [Slot]) -> Result<
     Ok(())
 }
 
-/// Counts random runs of a program by their outcomes, the most frequent outcome first. Fails only if out of memory.
+/// Counts random runs of a program by their outcomes, the most frequent outcome first. Two histograms of the same runs
+/// are equal, by however many workers the runs are made. Fails only if out of memory.
 pub fn seeded_histogram<R: Threads + Sync>(
     rt: &R,
     alloc: Global,
@@ -114,8 +116,10 @@ pub fn seeded_histogram<R: Threads + Sync>(
     runs: &SeededRuns,
 ) -> Result<Histogram, OutOfMemory>
     requires { 0 < runs.now.workers }
-    ensures { IfOk result (IsHistogramOf program.now runs.now) }
+    ensures counted { IfOk result (IsHistogramOf program.now runs.now) }
+    ensures one { EveryProgramHasOneHistogram }
 {
+    runs_have_one_histogram();
     let mut histogram = Histogram::new(alloc);
     let mut made = 0;
     'blocks: while made < runs.runs {

@@ -13,43 +13,43 @@ use Rattle.event_texts.specs.Labels.{labels_in}
 use Rattle.litmus.specs.Refusals.{line_refusal_name, refusal_line}
 use Rattle.inputs.specs.declared.command_stop.CommandStop.{CommandStop}
 use Rattle.inputs.specs.declared.command_stop.CommandStop.TheVariants.{Refused, Failed}
-use Rattle.inputs.specs.Inputs.{AreBytesOf, IsInputError}
+use Rattle.inputs.specs.Inputs.{AreBytesOf, Inputs, IsInputError}
 use Rattle.inputs.specs.Refusal.{IsReadingStop}
 
 -- the input of this name is the text of the program
-pub record IsProgramAt (inputs : List ℕ → Option (List ℕ)) (name : List ℕ) (program : Parts) : Type 0 where
+pub record IsProgramAt (inputs : Inputs) (name : List ℕ) (program : Parts) : Type 0 where
   pub text : List ℕ
   pub given : AreBytesOf inputs name text
   pub read : reading text ≡ Ok program
 
 -- the bytes of the input of this name give the recording of a size
-pub record IsRecordingAt (inputs : List ℕ → Option (List ℕ)) (name : List ℕ) (size : RecordingSize) (x : Execution)
+pub record IsRecordingAt (inputs : Inputs) (name : List ℕ) (size : RecordingSize) (x : Execution)
     : Type 0 where
   pub bytes : List ℕ
   pub given : AreBytesOf inputs name bytes
   pub read : IsReadingOf size bytes (Ok x)
 
 -- the bytes of the input of this name give the values
-pub record AreValuesAt (inputs : List ℕ → Option (List ℕ)) (name : List ℕ) (v : Values) : Type 0 where
+pub record AreValuesAt (inputs : Inputs) (name : List ℕ) (v : Values) : Type 0 where
   pub bytes : List ℕ
   pub given : AreBytesOf inputs name bytes
   pub read : IsValuesReading bytes (Ok v)
 
 -- the named program is refused or isn't read
-abbrev pub IsProgramStop : (List ℕ → Option (List ℕ)) → List ℕ → CommandStop → Type 0
+abbrev pub IsProgramStop : Inputs → List ℕ → CommandStop → Type 0
 IsProgramStop inputs name (Refused refusal) = (text : List ℕ) × AreBytesOf inputs name text
     × IsReadingStop line_refusal_name (reading text) (Refused refusal)
 IsProgramStop inputs name (Failed error) = IsInputError inputs name error
 
 -- the named input is no recording of a size, or isn't read
-abbrev pub IsRecordingStop : (List ℕ → Option (List ℕ)) → List ℕ → RecordingSize → CommandStop → Type 0
+abbrev pub IsRecordingStop : Inputs → List ℕ → RecordingSize → CommandStop → Type 0
 IsRecordingStop inputs name size (Refused refusal) = (bytes : List ℕ) × AreBytesOf inputs name bytes
     × (refused : RecError) × IsReadingOf size bytes (Err refused)
     × (recording_line refused ≡ Some (string_bytes refusal.line))
 IsRecordingStop inputs name size (Failed error) = IsInputError inputs name error
 
 -- the input of this name has a label for each event of the recording
-pub record AreLabelsAt (inputs : List ℕ → Option (List ℕ)) (name : List ℕ) (x : Execution) (labels : List (List ℕ))
+pub record AreLabelsAt (inputs : Inputs) (name : List ℕ) (x : Execution) (labels : List (List ℕ))
     : Type 0 where
   pub text : List ℕ
   pub given : AreBytesOf inputs name text
@@ -65,26 +65,26 @@ IsLabelsRefusal text x line =
     × (line ≡ codes "refused: A2" ++ 10 ∷ []))
 
 -- the named input has no label for each event of the recording, or isn't read
-abbrev pub IsLabelsStop : (List ℕ → Option (List ℕ)) → List ℕ → CommandStop → Execution → Type 0
+abbrev pub IsLabelsStop : Inputs → List ℕ → CommandStop → Execution → Type 0
 IsLabelsStop inputs name (Refused refusal) x = (text : List ℕ) × AreBytesOf inputs name text
     × IsLabelsRefusal text x (string_bytes refusal.line)
 IsLabelsStop inputs name (Failed error) x = IsInputError inputs name error
 
 -- the named input is no text of values, or isn't read
-abbrev pub IsValuesStop : (List ℕ → Option (List ℕ)) → List ℕ → CommandStop → Type 0
+abbrev pub IsValuesStop : Inputs → List ℕ → CommandStop → Type 0
 IsValuesStop inputs name (Refused refusal) = (bytes : List ℕ) × AreBytesOf inputs name bytes
     × (refused : RecError) × IsValuesReading bytes (Err refused)
     × (recording_line refused ≡ Some (string_bytes refusal.line))
 IsValuesStop inputs name (Failed error) = IsInputError inputs name error
 
 -- the input of this name is a program, of which this holds
-abbrev pub OfProgram : (List ℕ → Option (List ℕ)) → List ℕ → (Parts → Type 0) → Type 0
+abbrev pub OfProgram : Inputs → List ℕ → (Parts → Type 0) → Type 0
 OfProgram inputs name Holds = (program : Parts) × IsProgramAt inputs name program × Holds program
 
 -- the input of this name is a recording of a size, of which this holds
-abbrev pub OfRecording : (List ℕ → Option (List ℕ)) → List ℕ → RecordingSize → (Execution → Type 0) → Type 0
+abbrev pub OfRecording : Inputs → List ℕ → RecordingSize → (Execution → Type 0) → Type 0
 OfRecording inputs name size Holds = (x : Execution) × IsRecordingAt inputs name size x × Holds x
 
 -- the input of this name has values, of which this holds
-abbrev pub OfValues : (List ℕ → Option (List ℕ)) → List ℕ → (Values → Type 0) → Type 0
+abbrev pub OfValues : Inputs → List ℕ → (Values → Type 0) → Type 0
 OfValues inputs name Holds = (v : Values) × AreValuesAt inputs name v × Holds v

@@ -1,6 +1,7 @@
 //! Why a line is none of a program, in words for a person.
 
-use program::{Name, decimal};
+use program::Name;
+use texts::decimal;
 
 /// Whether a line is made of words, with one space between them.
 fn has_words(line: &[u8]) -> bool {

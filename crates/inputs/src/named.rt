@@ -1,6 +1,6 @@
 //! The program, the recording, the values or the labels that a named input is.
 ghost use Rattle.std.specs.Prelude.{◌≡◌, ◌∷◌, [], IfErr, IfOk};
-ghost use Rattle.inputs.specs.Inputs.{CanRead, ReadsNamed};
+ghost use Rattle.inputs.specs.Inputs.{ReadsNamed};
 ghost use Rattle.inputs.specs.Named.{AreLabelsAt, IsLabelsStop, IsProgramAt, IsProgramStop, IsRecordingAt, IsRecordingStop};
 ghost use Rattle.inputs.specs.Named.{AreValuesAt, IsValuesStop};
 
@@ -21,7 +21,6 @@ use verdicts::recording_line;
 
 /// The program of a named input, or why it is not read.
 pub fn program_at<H: Host>(alloc: Global, host: &mut H, name: &str) -> Result<Program, CommandStop>
-    requires { CanRead (H.log host.old).tally }
     ensures ok { IfOk result (λ program. IsProgramAt (H.bytes host.old) name.now program) }
     ensures err { IfErr result (IsProgramStop (H.bytes host.old) name.now) }
     ensures reads { ReadsNamed (name.now ∷ []) (H.log host.old) (H.log host.new) result }
@@ -47,7 +46,6 @@ pub fn recording_at<H: Host>(
     name: &str,
     size: RecordingSize,
 ) -> Result<Recording, CommandStop>
-    requires { CanRead (H.log host.old).tally }
     ensures ok { IfOk result (λ recording. IsRecordingAt (H.bytes host.old) name.now size recording) }
     ensures err { IfErr result (IsRecordingStop (H.bytes host.old) name.now size) }
     ensures reads { ReadsNamed (name.now ∷ []) (H.log host.old) (H.log host.new) result }
@@ -70,7 +68,6 @@ pub fn labels_at<H: Host>(
     name: &str,
     recording: &Recording,
 ) -> Result<Labels, CommandStop>
-    requires { CanRead (H.log host.old).tally }
     ensures ok { IfOk result (AreLabelsAt (H.bytes host.old) name.now recording.now) }
     ensures err { IfErr result (λ stop. IsLabelsStop (H.bytes host.old) name.now stop recording.now) }
     ensures reads { ReadsNamed (name.now ∷ []) (H.log host.old) (H.log host.new) result }
@@ -98,7 +95,6 @@ pub fn labels_at<H: Host>(
 
 /// The values of a named input, or why they are not read.
 pub fn values_at<H: Host>(alloc: Global, host: &mut H, name: &str) -> Result<Values, CommandStop>
-    requires { CanRead (H.log host.old).tally }
     ensures ok { IfOk result (λ values. AreValuesAt (H.bytes host.old) name.now values) }
     ensures err { IfErr result (IsValuesStop (H.bytes host.old) name.now) }
     ensures reads { ReadsNamed (name.now ∷ []) (H.log host.old) (H.log host.new) result }

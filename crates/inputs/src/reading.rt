@@ -1,9 +1,9 @@
 //! Named inputs as bytes.
 ghost use Rattle.std.specs.Prelude.{◌≡◌, ◌∷◌, [], IfErr, IfOk, false};
 ghost use Rattle.std.specs.Io.KnownBytes.{Keeps};
-ghost use Rattle.devices.specs.Host.{Notes, lent_more};
+ghost use Rattle.devices.specs.Host.{Notes, lent};
 ghost use Rattle.inputs.specs.declared.command_stop.CommandStop.TheVariants.{Failed};
-ghost use Rattle.inputs.specs.Inputs.{AreBytesOf, AreStopped, CanRead, IsInputError, ReadsInput};
+ghost use Rattle.inputs.specs.Inputs.{AreBytesOf, AreStopped, IsInputError, ReadsInput};
 
 use crate::command_error::CommandError;
 use devices::{Host, InputError, ReadError, read_all};
@@ -11,11 +11,10 @@ use std::alloc::Global;
 
 /// An input of this name, opened, or why it is not.
 pub fn opened<H: Host>(alloc: Global, host: &mut H, name: &str) -> Result<H::Input, CommandError>
-    requires { CanRead (H.log host.old).tally }
     ensures given { IfOk result (λ input. Keeps (H.bytes host.old name.now) (H.Input.left input)) }
     ensures unread { IfOk result (λ input. H.Input.is_ended input ≡ false) }
-    ensures unfailed { IfOk result (λ input. H.Input.read_failures input ≡ 0) }
-    ensures lent { IfOk result (λ _. (H.log host.new).tally ≡ lent_more (H.log host.old).tally) }
+    ensures unfailed { IfOk result (λ input. H.Input.read_failed input ≡ false) }
+    ensures lent { IfOk result (λ _. (H.log host.new).tally ≡ lent (H.log host.old).tally) }
     ensures asked { IfOk result (λ _. Notes (H.log host.old).asked (H.log host.new).asked (name.now ∷ [])) }
     ensures error { IfErr result (IsInputError (H.bytes host.old) name.now) }
     ensures stopped { IfErr result (λ error.
@@ -34,7 +33,6 @@ pub fn opened<H: Host>(alloc: Global, host: &mut H, name: &str) -> Result<H::Inp
 
 /// All bytes of a named input.
 pub fn text_at<H: Host>(alloc: Global, host: &mut H, name: &str) -> Result<Vec<u8>, CommandError>
-    requires { CanRead (H.log host.old).tally }
     ensures given { IfOk result (λ text. AreBytesOf (H.bytes host.old) name.now text.items) }
     ensures error { IfErr result (IsInputError (H.bytes host.old) name.now) }
     ensures reads { ReadsInput name.now (H.log host.old) (H.log host.new) result }

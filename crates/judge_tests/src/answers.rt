@@ -1,7 +1,5 @@
 //! Answers to the bytes of recordings, from and to devices that fail.
 
-ghost use Rattle.devices.specs.Bytes.{CanGrow};
-
 use crate::recordings::{MESSAGE_PASSING, STORE_BUFFERING};
 use common::OpenGate;
 use report::{
@@ -80,9 +78,7 @@ fn leaves_nothing<R: Threads + Wait + Sync, S: Source + Drop>(
     rt: &R,
     alloc: Global,
     source: S,
-) -> bool
-    requires { CanGrow (S.read_failures source) }
-{
+) -> bool {
     let mut source = source;
     let mut sink = MemorySink::new(alloc);
     let answered = answer(rt, alloc, &mut source, &mut sink, 1, &OpenGate);

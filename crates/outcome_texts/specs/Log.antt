@@ -2,7 +2,7 @@
 use Rattle.std.specs.Prelude.{◌+◌, ◌==◌, ◌++◌, ◌∷◌, ◌&&◌, ◌||◌, ℕ, Bool, true, false, not, if◌then◌else◌}
 use Rattle.std.specs.Prelude.{List, [], Result, Ok, Err, take, drop, slice_index}
 use Rattle.std.specs.List.{list_any, prefix_len}
-use Rattle.program.specs.Numbers.{is_digit}
+use Rattle.texts.specs.Decimals.{is_digit}
 use Rattle.program.specs.Parts.{Parts}
 use Rattle.outcomes.specs.declared.observed.Observation.{Observation}
 use Rattle.outcome_texts.specs.declared.items.Ending.TheVariants.{Needed}

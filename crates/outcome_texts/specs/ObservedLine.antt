@@ -7,7 +7,7 @@ use Rattle.std.specs.Prelude.{length}
 use Rattle.std.specs.List.{list_any}
 use Rattle.program.specs.declared.op.Op.{Op}
 use Rattle.program.specs.Names.{name_of, name_eq}
-use Rattle.program.specs.Numbers.{decimal_of}
+use Rattle.texts.specs.Decimals.{decimal_of}
 use Rattle.program.specs.Parts.{Parts}
 use Rattle.machine.specs.State.{first_event}
 use Rattle.outcomes.specs.declared.observed.Observation.{Observation}

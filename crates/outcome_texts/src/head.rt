@@ -2,7 +2,7 @@
 
 ghost use Rattle.std.specs.Prelude.{◌≡◌, ◌≤◌, length};
 ghost use Rattle.std.specs.List.{prefix_len};
-ghost use Rattle.program.specs.Numbers.{is_digit};
+ghost use Rattle.texts.specs.Decimals.{is_digit};
 ghost use Rattle.outcome_texts.specs.ObservedLine.{is_blank};
 ghost use Rattle.outcome_texts.specs.Log.{after_count, after_mark, blanks, count_len, digits, is_counted, is_marked};
 ghost use Rattle.outcome_texts.specs.Log.{is_plain_byte, trimmed, uncommented};

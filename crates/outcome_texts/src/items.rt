@@ -8,7 +8,8 @@ ghost use Rattle.outcome_texts.specs.ObservedLine.{small_number};
 
 use common::{Addr, CoreId, EventId};
 use outcomes::{Observation, does_read, first_event};
-use program::{Name, Number, Op, Program, decimal};
+use program::{Name, Op, Program};
+use texts::{Number, decimal};
 
 /// Whether items end with `;`.
 #[derive(Clone, Copy, Debug, PartialEq, Eq)]

@@ -1,14 +1,14 @@
--- How much failed where there is no answer.
-use Rattle.std.specs.Prelude.{ℕ}
+-- What failed where there is no answer.
+use Rattle.std.specs.Prelude.{Bool, true, false}
 use Rattle.report.specs.declared.error.ReportError.{ReportError}
 use Rattle.report.specs.declared.error.ReportError.TheVariants.{ReadFailed, WriteFailed}
 
--- how many reads failed
-abbrev pub report_failed_reads : ReportError → ℕ
-report_failed_reads ReadFailed = 1
-report_failed_reads other = 0
+-- a read failed
+abbrev pub is_read_failure : ReportError → Bool
+is_read_failure ReadFailed = true
+is_read_failure other = false
 
--- how many writes failed
-abbrev pub report_failed_writes : ReportError → ℕ
-report_failed_writes WriteFailed = 1
-report_failed_writes other = 0
+-- a write failed
+abbrev pub is_write_failure : ReportError → Bool
+is_write_failure WriteFailed = true
+is_write_failure other = false

@@ -2,11 +2,11 @@
 
 ghost use Rattle.std.specs.Prelude.{◌≡◌, ◌≢◌, ◌≤◌, ℕ, List, true, Err, IfErr, IfOk, OnOk};
 ghost use Rattle.std.specs.Io.KnownBytes.{Consumes, IsAtEnd};
-ghost use Rattle.devices.specs.Bytes.{CanGrow, CountsBy};
+ghost use Rattle.devices.specs.Bytes.{FailsBy};
 ghost use Rattle.report.specs.declared.error.ReportError.{ReportError};
 ghost use Rattle.recording.specs.declared.size.RecordingSize.TheVariants.{Short};
 ghost use Rattle.report.specs.Answer.{IsAnswerOf, IsBegun, IsLongAnswerOf, IsPut, IsReadOrRefused};
-ghost use Rattle.report.specs.Errors.{report_failed_reads, report_failed_writes};
+ghost use Rattle.report.specs.Errors.{is_read_failure, is_write_failure};
 
 use crate::error::ReportError;
 use common::{Gate, MAX_WORKERS, OutOfMemory};
@@ -112,16 +112,14 @@ pub fn answer<T: Threads + Wait + Sync, R: Source, W: Sink, G: Gate>(
     gate: &G,
 ) -> Result<Outcome, ReportError>
     requires workers { (1 ≤ workers) × (workers ≤ MAX_WORKERS) }
-    requires reads { CanGrow (R.read_failures source.old) }
-    requires writes { CanGrow (W.write_failures sink.old) }
     ensures whole { IfOk result (λ outcome. (bytes : List ℕ) × Consumes (R.left source.old) (R.left source.new) bytes
         × IsPut (IsAnswerOf bytes) (W.written sink.old) (W.written sink.new) outcome) }
     ensures met { OnOk result (R.is_ended source.new ≡ true) }
     ensures all { OnOk result (IsAtEnd (R.left source.new)) }
     ensures read_before { result ≡ Err ReportError.WriteFailed → (R.is_ended source.new ≡ true)
         × IsAtEnd (R.left source.new) }
-    ensures read_count { CountsBy report_failed_reads (R.read_failures source.old) (R.read_failures source.new) result }
-    ensures write_count { CountsBy report_failed_writes (W.write_failures sink.old) (W.write_failures sink.new) result }
+    ensures read_failed { FailsBy is_read_failure (R.read_failed source.old) (R.read_failed source.new) result }
+    ensures write_failed { FailsBy is_write_failure (W.write_failed sink.old) (W.write_failed sink.new) result }
     ensures begun { result ≡ Err ReportError.WriteFailed → (bytes : List ℕ)
         × Consumes (R.left source.old) (R.left source.new) bytes
         × IsBegun (IsAnswerOf bytes) (W.written sink.old) (W.written sink.new) }

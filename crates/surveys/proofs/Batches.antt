@@ -1,45 +1,15 @@
 -- Batches that are tallied one after another.
-use Rattle.std.proofs.Common.{◌≡◌, ◌≤◌, ◌+◌, ◌++◌, ◌<◌, ◌^◌, [], ℕ, List, Bool, Option, false, arith, ap, refl, sym, subst}
-use Rattle.std.proofs.Common.{◌∙◌, append_assoc, append-nil, drop, length, length-append, take, take-append-drop}
-use Rattle.std.proofs.KnownBytes.{Appends-nil, Consumes-nil}
+use Rattle.std.proofs.Common.{◌≡◌, ◌≤◌, ◌+◌, ◌++◌, [], ℕ, List, Bool, Option, arith, ap, refl, sym, subst}
+use Rattle.std.proofs.Common.{◌∙◌, append_assoc, append-nil, drop, length, take, take-append-drop}
+use Rattle.std.proofs.KnownBytes.{Consumes-nil}
 use Rattle.std.proofs.lemmas.List.{length-take, take_all}
 use Rattle.std.proofs.Math.Seq.{drop-append-add}
 use Rattle.ledger.specs.declared.survey_ledger.SurveyLedger.{SurveyLedger}
-use Rattle.ledger.specs.Surveyed.{IsSurveyLedger}
-use Rattle.ledger.specs.Surveyed.{CanJoinSurveys, AreJoinedSurveys}
 use Rattle.surveys.specs.declared.kind.LineKind.{LineKind}
-use Rattle.surveys.specs.Coded.{AreLineCodes}
-use Rattle.surveys.specs.Lines.{IsWhole, lines}
-use Rattle.surveys.specs.Surveys.{ExtendsSurvey, IsSurveyOfRead}
+use Rattle.surveys.specs.Lines.{IsWhole}
+use Rattle.surveys.specs.Surveys.{IsSurveyOfRead}
 use Rattle.surveys.specs.Tallies.{Ends, IsTally, IsTallied, IsUnderWay}
 use Rattle.surveys.proofs.Blocks.{all_read}
-use Rattle.surveys.proofs.Found.{part_joined, part_joins}
-use Rattle.surveys.proofs.Tallied.{grown, up_to_front}
-
-module _ (kind : LineKind) (l m : SurveyLedger) (n : ℕ) (batch codes : List ℕ)
-    (coded : AreLineCodes kind batch codes) (counted : IsSurveyLedger codes m) where
-  -- the codes of a batch can be counted
-  pub batch_joins : (front : List ℕ) (start now : Option (List ℕ)) → IsTally kind false front l n start now
-      → n + length batch < 2 ^ 64 → CanJoinSurveys l m
-  batch_joins front start now tally few =
-      part_joins kind (front ++ batch) batch [] (lines batch) coded.findings l false start now
-      (up_to_front kind false front batch l n start now tally) (sym (append-nil (lines batch))) coded.found m
-      (subst (λ (cs : List ℕ). IsSurveyLedger cs m) coded.are counted)
-      (omega (arith, tally.size, length-append front batch, few))
-
-  -- and are then tallied
-  pub batch_tallied : (both : SurveyLedger) (k : ℕ) (bytes rest : List ℕ) (w : Option (List ℕ)) → bytes ≡ batch ++ rest
-      → IsWhole batch → k ≡ n + length batch → AreJoinedSurveys l m both
-      → IsTallied kind false bytes rest l n w both k w
-  batch_tallied both k bytes rest w cut whole size join =
-      let on : ExtendsSurvey kind batch [] false l w both w = λ all start so_far.
-      part_joined kind all batch [] (lines batch) coded.findings l false start w so_far (sym (append-nil (lines batch)))
-      coded.found m both w (subst (λ (cs : List ℕ). IsSurveyLedger cs m) coded.are counted) join (Appends-nil w) in
-      record {
-        more = batch;
-        cut = cut;
-        grows = λ front start tally. grown kind false front batch l both n k start w w tally on size whole;
-      }
 
 -- what is whole to its end
 pub whole_all : (end : ℕ) (bytes batch : List ℕ) → bytes ≡ batch → end ≡ length batch → IsWhole (take end bytes)
@@ -79,25 +49,35 @@ more_tallied kind each bytes rest after l m o n k j u v w first then = record {
       (then.grows (front ++ first.more) start (first.grows front start tally));
 }
 
+-- one more, of a block of which what comes after it is left
+pub rest_tallied : (kind : LineKind) (each : Bool) (bytes block seen rest : List ℕ) (end : ℕ) (l m o : SurveyLedger)
+    (n k j : ℕ) (u v w : Option (List ℕ)) → seen ≡ block → rest ≡ drop end block
+    → IsTallied kind each bytes block l n u m k v → IsTallied kind each seen (drop end seen) m k v o j w
+    → IsTallied kind each bytes rest l n u o j w
+rest_tallied kind each bytes block seen rest end l m o n k j u v w same is_rest first then =
+    more_tallied kind each bytes block rest l m o n k j u v w first
+    (subst (λ (r : List ℕ). IsTallied kind each block r m k v o j w) (sym is_rest)
+    (subst (λ (b : List ℕ). IsTallied kind each b (drop end b) m k v o j w) same then))
+
 -- from this place on
-pub tallied_from : (kind : LineKind) (bytes part : List ℕ) (from n : ℕ) (l m o : SurveyLedger) (i k j : ℕ)
-    (w : Option (List ℕ))
-    → from ≤ length bytes → part ≡ drop from bytes → IsTallied kind false bytes (drop from bytes) l i w m k w
-    → IsTallied kind false part (drop n part) m k w o j w
-    → IsTallied kind false bytes (drop (from + n) bytes) l i w o j w
-tallied_from kind bytes part from n l m o i k j w within same first then =
-    more_tallied kind false bytes (drop from bytes) (drop (from + n) bytes) l m o i k j w w w first
-    (subst (λ (after : List ℕ). IsTallied kind false (drop from bytes) after m k w o j w) (sym (dropped from n bytes
+pub tallied_from : (kind : LineKind) (each : Bool) (bytes part : List ℕ) (from n : ℕ) (l m o : SurveyLedger)
+    (i k j : ℕ) (u v w : Option (List ℕ))
+    → from ≤ length bytes → part ≡ drop from bytes → IsTallied kind each bytes (drop from bytes) l i u m k v
+    → IsTallied kind each part (drop n part) m k v o j w
+    → IsTallied kind each bytes (drop (from + n) bytes) l i u o j w
+tallied_from kind each bytes part from n l m o i k j u v w within same first then =
+    more_tallied kind each bytes (drop from bytes) (drop (from + n) bytes) l m o i k j u v w first
+    (subst (λ (after : List ℕ). IsTallied kind each (drop from bytes) after m k v o j w) (sym (dropped from n bytes
     within))
-    (subst (λ (b : List ℕ). IsTallied kind false b (drop n b) m k w o j w) same then))
+    (subst (λ (b : List ℕ). IsTallied kind each b (drop n b) m k v o j w) same then))
 
 -- what is tallied so far goes on where the tally is
-pub tally_on : (kind : LineKind) (bytes rest front : List ℕ) (l m : SurveyLedger) (n k : ℕ)
-    (start now : Option (List ℕ))
-    → IsTally kind false front l n start now → IsTallied kind false bytes rest l n now m k now
-    → (f : List ℕ) × (s : Option (List ℕ)) × (w : Option (List ℕ)) × IsTally kind false f m k s w
-tally_on kind bytes rest front l m n k start now tally tallied =
-    (front ++ tallied.more, start, now, tallied.grows front start tally)
+pub tally_on : (kind : LineKind) (each : Bool) (bytes rest front : List ℕ) (l m : SurveyLedger) (n k : ℕ)
+    (start now then : Option (List ℕ))
+    → IsTally kind each front l n start now → IsTallied kind each bytes rest l n now m k then
+    → (f : List ℕ) × (s : Option (List ℕ)) × IsTally kind each f m k s then
+tally_on kind each bytes rest front l m n k start now then tally tallied =
+    (front ++ tallied.more, start, tallied.grows front start tally)
 
 -- the last bytes are counted
 pub all_ended : (kind : LineKind) (each : Bool) (u v s t o : Option (List ℕ)) (l m : SurveyLedger) (n : ℕ)

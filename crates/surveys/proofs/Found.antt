@@ -1,6 +1,6 @@
--- What is found at places and in lines.
-use Rattle.std.proofs.Common.{◌≡◌, ◌<◌, ◌≤◌, ◌+◌, ◌++◌, ◌^◌, ℕ, suc, List, [], ◌∷◌, Option}
-use Rattle.std.proofs.Common.{Bor, arith, sym, ap, ◌∙◌, subst, length, length-append, map, refl}
+-- What is found in lines.
+use Rattle.std.proofs.Common.{◌≡◌, ◌<◌, ◌≤◌, ◌+◌, ◌++◌, ◌^◌, ℕ, List, [], ◌∷◌, Option}
+use Rattle.std.proofs.Common.{arith, sym, ap, ◌∙◌, subst, length, length-append, refl}
 use Rattle.std.proofs.Common.{Bool, true, false}
 use Rattle.std.proofs.KnownBytes.{Appends-nil, Appends-trans}
 use Rattle.std.specs.Io.KnownBytes.{Appends}
@@ -12,24 +12,12 @@ use Rattle.ledger.specs.Findings.{finding_code}
 use Rattle.ledger.specs.Surveyed.{CanJoinSurveys, AreJoinedSurveys}
 use Rattle.ledger.specs.SurveyedLaws.{joined_surveys}
 use Rattle.surveys.specs.declared.kind.LineKind.{LineKind}
-use Rattle.surveys.specs.Claims.{AreFoundBelow}
 use Rattle.surveys.specs.Found.{AreFindings, codes_of}
 use Rattle.surveys.proofs.LineLemmas.{few_lines}
 use Rattle.surveys.specs.Lines.{IsCut, lines}
 use Rattle.surveys.specs.Surveys.{IsSurveyOfLines, IsSurvey, IsSurveyUpTo, told_text}
 use Rattle.surveys.specs.Each.{each_text}
 use Rattle.surveys.proofs.EachText.{each_append}
-
--- what is found in every line
-pub all_found : (kind : LineKind) (ls : List (Bor (List ℕ))) (fs : List Finding) → length fs ≡ length ls
-    → AreFoundBelow kind ls (length ls) fs → AreFindings kind (map (λ l. l.now) ls) fs
-all_found kind [] [] size each = tt
-all_found kind [] (f ∷ fs) size each = absurd (omega (arith, size))
-all_found kind (l ∷ ls) [] size each = absurd (omega (arith, size))
-all_found kind (l ∷ ls) (f ∷ fs) size each = (
-  each 0 l f (omega arith),
-  all_found kind ls fs (omega (arith, size)) (λ i d e low. each (suc i) d e (omega (arith, low))),
-)
 
 -- what is found in lines and in more lines
 pub findings_append : (kind : LineKind) (ls ms : List (List ℕ)) (xs ys : List Finding) → AreFindings kind ls xs

@@ -4,7 +4,7 @@ pub mod Found
 pub mod Tallied
 pub mod Blocks
 pub mod Shown
-pub mod LineCodes
+pub mod LineFindings
 pub mod Batches
 pub mod FoundLemmas
 pub mod LineLemmas

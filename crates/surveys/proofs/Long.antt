@@ -115,3 +115,8 @@ module _ (u v w : Option (List ℕ)) (k m n : ℕ) (old block : List ℕ) (is : 
 
   pub long_later : (e : SurveyError) (x : Option (List ℕ)) → IsLongRead e w x → IsLongRead e u x
   long_later e x = long_then e u w x (is.front ++ block) (filled u v w is.front old block is.read gathered)
+
+-- no bytes are too many where memory ran out
+pub memory_known : (u : Option (List ℕ)) → IfSome u (λ bytes. IsLong OutOfMemory (length bytes))
+memory_known None = tt
+memory_known (Some xs) = tt

@@ -3,7 +3,7 @@ use Rattle.std.specs.Prelude.{◌≡◌, ℕ, List}
 use Rattle.ledger.specs.declared.finding.Finding.{Finding}
 use Rattle.surveys.specs.declared.kind.LineKind.{LineKind}
 use Rattle.surveys.specs.Found.{AreFindings, codes_of}
-use Rattle.surveys.specs.Lines.{IsCut, lines}
+use Rattle.surveys.specs.Lines.{lines}
 
 -- the codes of what is found in lines, in order
 pub record AreFindingCodes (kind : LineKind) (all : List (List ℕ)) (codes : List ℕ) : Type 0 where
@@ -14,7 +14,3 @@ pub record AreFindingCodes (kind : LineKind) (all : List (List ℕ)) (codes : Li
 -- in all lines of the bytes
 abbrev pub AreLineCodes : LineKind → List ℕ → List ℕ → Type 0
 AreLineCodes kind bytes codes = AreFindingCodes kind (lines bytes) codes
-
--- in all lines of the bytes but those of the rest
-abbrev pub AreCodesUpTo : LineKind → List ℕ → List ℕ → List ℕ → Type 0
-AreCodesUpTo kind bytes rest codes = (front : List (List ℕ)) × IsCut bytes front rest × AreFindingCodes kind front codes

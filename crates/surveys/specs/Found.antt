@@ -19,6 +19,7 @@ use Rattle.values_text.specs.Reading.{IsValuesReading}
 use Rattle.completion.specs.Reachable.{HasMore}
 use Rattle.surveys.specs.declared.kind.LineKind.{LineKind}
 use Rattle.surveys.specs.declared.kind.LineKind.TheVariants as kinds
+use Rattle.surveys.specs.Lines.{IsCut, lines}
 
 -- the verdict on the recording that the bytes give
 pub record IsJudged (bytes : List ℕ) (verdict : Verdict) : Type 0 where
@@ -97,6 +98,15 @@ IsLineFinding (kinds.Values states) bytes finding = AreCompleted bytes states fi
 -- what is found in lines, in order
 abbrev pub AreFindings : LineKind → List (List ℕ) → List Finding → Type 0
 AreFindings kind lines findings = AllZip (IsLineFinding kind) lines findings
+
+-- in all lines of the bytes
+abbrev pub AreLineFindings : LineKind → List ℕ → List Finding → Type 0
+AreLineFindings kind bytes findings = AreFindings kind (lines bytes) findings
+
+-- in all lines of the bytes but those of the rest
+abbrev pub AreFindingsUpTo : LineKind → List ℕ → List ℕ → List Finding → Type 0
+AreFindingsUpTo kind bytes rest findings = (front : List (List ℕ)) × IsCut bytes front rest
+    × AreFindings kind front findings
 
 -- its codes
 abbrev pub codes_of : List Finding → List ℕ

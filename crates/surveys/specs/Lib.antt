@@ -1,6 +1,5 @@
 pub mod Lines
 pub mod Found
-pub mod Claims
 pub mod Each
 pub mod Surveys
 pub mod Tallies

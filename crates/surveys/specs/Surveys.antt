@@ -1,5 +1,5 @@
 -- What a survey counts, and what it tells.
-use Rattle.std.specs.Prelude.{◌≤◌, ◌^◌, ℕ, [], List, Option, Bool, if◌then◌else◌, length, ⊤}
+use Rattle.std.specs.Prelude.{◌≤◌, ◌^◌, ℕ, [], List, Option, Bool, true, false, if◌then◌else◌, length, ⊤}
 use Rattle.std.specs.Io.KnownBytes.{Appends, Consumes}
 use Rattle.ledger.specs.declared.finding.Finding.{Finding}
 use Rattle.ledger.specs.declared.survey_ledger.SurveyLedger.{SurveyLedger}
@@ -57,15 +57,15 @@ abbrev pub survey_error_of : ReadError → SurveyError
 survey_error_of errors.ReadFailed = ReadFailed
 survey_error_of errors.OutOfMemory = OutOfMemory
 
--- how many reads failed
-abbrev pub survey_failed_reads : SurveyError → ℕ
-survey_failed_reads ReadFailed = 1
-survey_failed_reads other = 0
+-- a read failed
+abbrev pub is_read_failure : SurveyError → Bool
+is_read_failure ReadFailed = true
+is_read_failure other = false
 
--- how many writes failed
-abbrev pub survey_failed_writes : SurveyError → ℕ
-survey_failed_writes WriteFailed = 1
-survey_failed_writes other = 0
+-- a write failed
+abbrev pub is_write_failure : SurveyError → Bool
+is_write_failure WriteFailed = true
+is_write_failure other = false
 
 -- so many bytes are too many only where they are 2^64 or more
 abbrev pub IsLong : SurveyError → ℕ → Type 0

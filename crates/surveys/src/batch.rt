@@ -1,22 +1,23 @@
 //! Batches of a block.
 
 ghost use Rattle.std.specs.Prelude.{◌≡◌, IfOk, IsTrue};
-ghost use Rattle.surveys.specs.Coded.{AreLineCodes};
+ghost use Rattle.surveys.specs.Found.{AreLineFindings};
 
 use crate::coded::judge_lines;
 use crate::kind::LineKind;
 use common::{Gate, OpenGate, OutOfMemory};
+use ledger::Finding;
 use std::alloc::Global;
 use std::marker::Model;
 
-/// The codes of what is found in lines of this kind.
+/// What is found in lines of this kind.
 #[derive(Drop)]
 struct Judged {
     kind: LineKind,
-    codes: Vec<u64>,
+    findings: Vec<Finding>,
 }
 
-/// Lines, and the codes of what is found in them where they are judged. Contracts see the bytes.
+/// Lines, and what is found in them where they are judged. Contracts see the bytes.
 #[derive(Drop)]
 pub(crate) struct Batch {
     bytes: Vec<u8>,
@@ -26,13 +27,13 @@ pub(crate) struct Batch {
 
 impl Model for Batch {
     ghost use Rattle.std.specs.Prelude.{ℕ, List, IfSome};
-    ghost use Rattle.surveys.specs.Coded.{AreLineCodes};
+    ghost use Rattle.surveys.specs.Found.{AreLineFindings};
 
     ghost Value = { List ℕ };
 
     ghost view = { λ p. p.bytes.items };
 
-    ghost invariant = { λ p. IfSome p.judged (λ j. AreLineCodes j.kind p.bytes.items j.codes.items) };
+    ghost invariant = { λ p. IfSome p.judged (λ j. AreLineFindings j.kind p.bytes.items j.findings.items) };
 }
 
 impl Batch {
@@ -54,19 +55,23 @@ impl Batch {
         &self.bytes
     }
 
-    /// Judges the lines, of which the gate hears, unless memory runs out.
+    /// Judges the lines by this worker, of which the gate hears, unless memory runs out.
     pub(crate) fn judge<G: Gate>(&mut self, alloc: Global, kind: LineKind, gate: &G, worker: usize)
         ensures { self.new ≡ self.old }
     {
-        let Ok(codes) = judge_lines(alloc, kind, &self.bytes, self.first, gate, worker) else {
+        let Ok(findings) = judge_lines(alloc, kind, &self.bytes, self.first, gate, worker) else {
             return;
         };
-        self.judged = Some(Judged { kind, codes });
+        self.judged = Some(Judged { kind, findings });
     }
 
-    /// The codes of what is found in the lines, which are judged here where they are not. Fails only if out of memory.
-    pub(crate) fn into_codes(self, alloc: Global, kind: LineKind) -> Result<Vec<u64>, OutOfMemory>
-        ensures { IfOk result (λ codes. AreLineCodes kind self codes.items) }
+    /// What is found in the lines, which are judged here where they are not. Fails only if out of memory.
+    pub(crate) fn into_findings(
+        self,
+        alloc: Global,
+        kind: LineKind,
+    ) -> Result<Vec<Finding>, OutOfMemory>
+        ensures { IfOk result (λ findings. AreLineFindings kind self findings.items) }
     {
         let Batch {
             bytes,
@@ -74,7 +79,7 @@ impl Batch {
             judged,
         } = self;
         match judged {
-            Some(Judged { kind: of, codes }) if is_same(of, kind) => Ok(codes),
+            Some(Judged { kind: of, findings }) if is_same(of, kind) => Ok(findings),
             _ => judge_lines(alloc, kind, &bytes, 0, &OpenGate, 0),
         }
     }

@@ -1,10 +1,10 @@
 //! Blocks of bytes that a source gives.
 
-ghost use Rattle.std.specs.Prelude.{◌≡◌, ◌≢◌, ◌<◌, ◌≤◌, true, IfErr, IfOk, OnOk, drop, length, take};
+ghost use Rattle.std.specs.Prelude.{◌≡◌, ◌≢◌, ◌<◌, ◌≤◌, true, IfErr, IfOk, OnOk, drop, length, take, false};
 ghost use Rattle.std.specs.Io.KnownBytes.{IsAtEnd};
-ghost use Rattle.devices.specs.Bytes.{CanGrow, CountsBy, Gathers};
+ghost use Rattle.devices.specs.Bytes.{FailsBy, Gathers};
 ghost use Rattle.surveys.specs.Lines.{IsWhole};
-ghost use Rattle.surveys.specs.Surveys.{IsLong, survey_failed_reads, survey_failed_writes};
+ghost use Rattle.surveys.specs.Surveys.{IsLong, is_read_failure, is_write_failure};
 
 use crate::error::SurveyError;
 use devices::{Source, read_more};
@@ -23,7 +23,6 @@ pub(crate) fn fill<R: Source>(
     block: &mut Vec<u8>,
     prompt: bool,
 ) -> Result<bool, SurveyError>
-    requires failures { CanGrow (R.read_failures source.old) }
     requires room { 0 < length chunk.old }
     ensures kept { length chunk.new ≡ length chunk.old }
     ensures gathered { OnOk result (Gathers (R.left source.old) (R.left source.new)
@@ -31,9 +30,9 @@ pub(crate) fn fill<R: Source>(
     ensures more { IfOk result (λ more. more ≡ true → length block.old.items < length block.new.items) }
     ensures met { IfOk result (λ more. more ≢ true → R.is_ended source.new ≡ true) }
     ensures all { IfOk result (λ more. more ≢ true → IsAtEnd (R.left source.new)) }
-    ensures count { CountsBy survey_failed_reads (R.read_failures source.old) (R.read_failures source.new) result }
+    ensures count { FailsBy is_read_failure (R.read_failed source.old) (R.read_failed source.new) result }
     ensures short { IfErr result (λ e. IsLong e 0) }
-    ensures writes { IfErr result (λ e. survey_failed_writes e ≡ 0) }
+    ensures writes { IfErr result (λ e. is_write_failure e ≡ false) }
 {
     let first = read_more(source, chunk, block)?;
     if first == 0 {

@@ -2,10 +2,10 @@
 #![tactic(auto)]
 
 mod batch;
-mod claims;
 mod coded;
 mod counting;
 mod each;
+mod engine;
 mod error;
 mod filling;
 mod judged;

@@ -1,119 +1,90 @@
 //! Batches that are offered to workers, and counted in order.
 
-ghost use Rattle.std.specs.Prelude.{◌≡◌, ◌≤◌, ◌+◌, ℕ, List, Option, false, IfErr, IfOk, drop, length};
-ghost use Rattle.surveys.specs.Surveys.{IsLong, survey_failed_reads, survey_failed_writes};
-ghost use Rattle.surveys.specs.Tallies.{IsTallied, IsTally};
-
-use crate::batch::Batch;
+use crate::counting::Counted;
+use crate::engine::Engine;
 use crate::error::SurveyError;
 use crate::filling::{keep_rest, last_end};
-use crate::kind::LineKind;
-use crate::queue::WorkQueue;
 use common::Gate;
-use ledger::SurveyLedger;
-use std::alloc::Global;
+use devices::Sink;
 use std::sync::Wait;
 
-/// Adds the lines of a batch to a ledger, and its length to the number of bytes; answers both, and a length of 0 where
-/// the bytes do not begin with it, whole.
-fn count_batch(
-    alloc: Global,
-    kind: LineKind,
-    ledger: &mut SurveyLedger,
-    counted: usize,
-    bytes: &[u8],
-    batch: Batch,
-) -> Result<(usize, usize), SurveyError>
-    requires { (front : List ℕ) × (start : Option (List ℕ)) × (now : Option (List ℕ))
-        × IsTally kind false front ledger.old counted start now }
-    ensures within { IfOk result (λ r. r.1 ≤ length bytes.now) }
-    ensures ok { IfOk result (λ r. (w : Option (List ℕ)) → IsTallied kind false bytes.now (drop r.1 bytes.now)
-        ledger.old counted w ledger.new r.0 w) }
-    ensures size { IfOk result (λ r. r.0 ≡ counted + r.1) }
-    ensures long { IfErr result (λ e. IsLong e (counted + length bytes.now)) }
-    ensures reads { IfErr result (λ e. survey_failed_reads e ≡ 0) }
-    ensures writes { IfErr result (λ e. survey_failed_writes e ≡ 0) }
-{
-    let length = batch.bytes().len();
-    if !bytes.starts_with(batch.bytes()) || last_end(batch.bytes(), 0) != length {
-        return Ok((counted, 0));
-    }
-    let codes = batch.into_codes(alloc, kind)?;
-    let more = SurveyLedger::count(alloc, &codes)?;
-    let Some(total) = counted.checked_add(length) else {
-        return Err(SurveyError::TooLong);
-    };
-    ledger.add(&more);
-    Ok((total, length))
-}
+impl<R: Wait, G: Gate> Engine<'_, R, G> {
+    ghost use Rattle.std.specs.Prelude.{◌≡◌, ◌≢◌, ◌<◌, ◌≤◌, ◌+◌, ◌^◌, ℕ, List, Option, IfErr, IfOk, OnOk};
+    ghost use Rattle.std.specs.Prelude.{drop, false, length, true};
+    ghost use Rattle.devices.specs.Bytes.{FailsBy};
+    ghost use Rattle.surveys.specs.Surveys.{IsLong, is_read_failure, is_write_failure};
+    ghost use Rattle.surveys.specs.Tallies.{IsTallied, IsTally};
 
-/// Adds the lines of the batches with which these bytes begin, in order, until at most this many bytes lie on the
-/// queue; answers the number of bytes with those, and how many those are.
-fn count_batches<R: Wait, G: Gate>(
-    rt: &R,
-    alloc: Global,
-    kind: LineKind,
-    queue: &WorkQueue,
-    ledger: &mut SurveyLedger,
-    counted: usize,
-    bytes: &[u8],
-    kept: usize,
-    gate: &G,
-) -> Result<(usize, usize), SurveyError>
-    requires { (front : List ℕ) × (start : Option (List ℕ)) × (now : Option (List ℕ))
-        × IsTally kind false front ledger.old counted start now }
-    ensures within { IfOk result (λ r. r.1 ≤ length bytes.now) }
-    ensures ok { IfOk result (λ r. (w : Option (List ℕ)) → IsTallied kind false bytes.now (drop r.1 bytes.now)
-        ledger.old counted w ledger.new r.0 w) }
-    ensures size { IfOk result (λ r. r.0 ≡ counted + r.1) }
-    ensures long { IfErr result (λ e. IsLong e (counted + length bytes.now)) }
-    ensures reads { IfErr result (λ e. survey_failed_reads e ≡ 0) }
-    ensures writes { IfErr result (λ e. survey_failed_writes e ≡ 0) }
-{
-    let mut total = counted;
-    let mut from = 0;
-    'batches: while from < bytes.len() {
-        let Some(batch) = queue.collect(rt, alloc, kind, kept, gate) else {
-            break;
-        };
-        let (more, length) = count_batch(alloc, kind, ledger, total, &bytes[from..], batch)?;
-        total = more;
-        from += length;
-        if length == 0 {
-            break;
+    /// Counts the lines of the batches with which these bytes begin, in order, until at most this many bytes lie on the
+    /// queue; answers how many bytes those are.
+    fn count_batches<W: Sink>(
+        &self,
+        sink: &mut W,
+        counted: &mut Counted,
+        bytes: &[u8],
+        kept: usize,
+    ) -> Result<usize, SurveyError>
+        requires { (front : List ℕ) × (start : Option (List ℕ))
+            × IsTally self.now.kind self.now.each front counted.old.ledger counted.old.bytes start (W.written sink.old) }
+        ensures within { IfOk result (λ n. n ≤ length bytes.now) }
+        ensures ok { IfOk result (λ n. IsTallied self.now.kind self.now.each bytes.now (drop n bytes.now)
+            counted.old.ledger counted.old.bytes (W.written sink.old)
+            counted.new.ledger counted.new.bytes (W.written sink.new)) }
+        ensures size { IfOk result (λ n. counted.new.bytes ≡ counted.old.bytes + n) }
+        ensures fits { OnOk result (counted.old.bytes < 2 ^ 64 → counted.new.bytes < 2 ^ 64) }
+        ensures long { IfErr result (λ e. IsLong e (counted.old.bytes + length bytes.now)) }
+        ensures reads { IfErr result (λ e. is_read_failure e ≡ false) }
+        ensures writes { FailsBy is_write_failure (W.write_failed sink.old) (W.write_failed sink.new) result }
+        ensures silent { self.now.each ≢ true → sink.new ≡ sink.old }
+    {
+        let mut from = 0;
+        'batches: while from < bytes.len() {
+            let Some(batch) = self.collect(kept) else {
+                break;
+            };
+            let length = self.count_first(sink, counted, &bytes[from..], batch)?;
+            from += length;
+            if length == 0 {
+                break;
+            }
+        }
+        Ok(from)
+    }
+
+    /// Offers the whole lines of a block to workers, of which this many bytes have no end of a line that was not offered,
+    /// and counts those of the first batches, until at most this many bytes lie on the queue; leaves in the block what
+    /// comes after these.
+    pub(crate) fn count_offered<W: Sink>(
+        &self,
+        sink: &mut W,
+        counted: &mut Counted,
+        block: &mut Vec<u8>,
+        seen: usize,
+        kept: usize,
+    ) -> Result<(), SurveyError>
+        requires { (front : List ℕ) × (start : Option (List ℕ))
+            × IsTally self.now.kind self.now.each front counted.old.ledger counted.old.bytes start (W.written sink.old) }
+        ensures ok { OnOk result (IsTallied self.now.kind self.now.each block.old.items block.new.items
+            counted.old.ledger counted.old.bytes (W.written sink.old)
+            counted.new.ledger counted.new.bytes (W.written sink.new)) }
+        ensures fits { OnOk result (counted.old.bytes < 2 ^ 64 → counted.new.bytes < 2 ^ 64) }
+        ensures long { IfErr result (λ e. IsLong e (counted.old.bytes + length block.old.items)) }
+        ensures reads { IfErr result (λ e. is_read_failure e ≡ false) }
+        ensures writes { FailsBy is_write_failure (W.write_failed sink.old) (W.write_failed sink.new) result }
+        ensures silent { self.now.each ≢ true → sink.new ≡ sink.old }
+    {
+        let mut seen = seen;
+        'rounds: loop {
+            let end = last_end(block, seen);
+            let is_offered = self.offer(&block[..end]);
+            // Batches that are counted leave room for those that had none.
+            let kept = if is_offered { kept } else { 0 };
+            let end = self.count_batches(sink, counted, block, kept)?;
+            keep_rest(block, end);
+            if is_offered || end == 0 {
+                return Ok(());
+            }
+            seen = 0;
         }
     }
-    Ok((total, from))
-}
-
-/// Offers the whole lines of a block to workers, of which this many bytes have no end of a line that was not offered,
-/// and adds those of the first batches to a ledger, until at most this many bytes lie on the queue; leaves in the block
-/// what comes after these.
-pub(crate) fn count_offered<R: Wait, G: Gate>(
-    rt: &R,
-    alloc: Global,
-    kind: LineKind,
-    queue: &WorkQueue,
-    ledger: &mut SurveyLedger,
-    counted: usize,
-    block: &mut Vec<u8>,
-    seen: usize,
-    kept: usize,
-    gate: &G,
-) -> Result<usize, SurveyError>
-    requires { (front : List ℕ) × (start : Option (List ℕ)) × (now : Option (List ℕ))
-        × IsTally kind false front ledger.old counted start now }
-    ensures ok { IfOk result (λ n. (w : Option (List ℕ)) → IsTallied kind false block.old.items block.new.items
-        ledger.old counted w ledger.new n w) }
-    ensures long { IfErr result (λ e. IsLong e (counted + length block.old.items)) }
-    ensures reads { IfErr result (λ e. survey_failed_reads e ≡ 0) }
-    ensures writes { IfErr result (λ e. survey_failed_writes e ≡ 0) }
-{
-    let end = last_end(block, seen);
-    let is_offered = queue.offer(rt, alloc, &block[..end]);
-    // Batches that are counted leave room for those that had none.
-    let kept = if is_offered { kept } else { 0 };
-    let (total, end) = count_batches(rt, alloc, kind, queue, ledger, counted, block, kept, gate)?;
-    keep_rest(block, end);
-    Ok(total)
 }

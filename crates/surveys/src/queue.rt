@@ -3,9 +3,8 @@
 ghost use Rattle.std.specs.Prelude.{◌≤◌, ◌<◌, length};
 
 use crate::batch::Batch;
-use crate::kind::LineKind;
 use crate::lines::split_line;
-use common::{Gate, OutOfMemory};
+use common::OutOfMemory;
 use std::alloc::Global;
 use std::mem::replace;
 use std::sync::{Condvar, Mutex, Wait};
@@ -176,7 +175,7 @@ impl Slots {
 
 /// What the thread that collects does next.
 #[derive(Drop)]
-enum Turn {
+pub(crate) enum Turn {
     /// Nothing more.
     Over,
     /// It has the oldest batch.
@@ -185,15 +184,16 @@ enum Turn {
     Judge(usize, Batch),
 }
 
-/// How many bytes the first lines have that make a batch, and how many of those lines are not empty.
-fn first_lines(bytes: &[u8]) -> (usize, usize)
+/// How many bytes the first lines have that make a batch of at most this many recordings, and how many of those lines
+/// are not empty.
+fn first_lines(bytes: &[u8], most: usize) -> (usize, usize)
     requires { 0 < length bytes.now }
     ensures some { 0 < result.0 }
     ensures within { result.0 ≤ length bytes.now }
 {
     let (line, mut rest) = split_line(bytes);
     let mut recordings = usize::from(!line.is_empty());
-    'lines: while !rest.is_empty() && bytes.len() - rest.len() < BATCH {
+    'lines: while !rest.is_empty() && bytes.len() - rest.len() < BATCH && recordings < most {
         let (line, more) = split_line(rest);
         recordings = recordings.wrapping_add(usize::from(!line.is_empty()));
         rest = more;
@@ -201,8 +201,8 @@ fn first_lines(bytes: &[u8]) -> (usize, usize)
     (bytes.len() - rest.len(), recordings)
 }
 
-/// A queue. One thread puts batches and collects them; it judges those that wait as worker 0 where it would have to
-/// wait itself. No clause says who judges a batch, or that it comes back as it was: what is collected is compared.
+/// A queue. One thread puts batches and collects them. No clause says who judges a batch, or that it comes back as it
+/// was: what is collected is compared.
 #[derive(Drop)]
 pub(crate) struct WorkQueue {
     slots: Mutex<Slots>,
@@ -243,13 +243,13 @@ impl WorkQueue {
         is_put
     }
 
-    /// Puts these lines, of which those that lie here are the first; false where all slots are used or memory runs
-    /// out before.
-    pub(crate) fn offer<R: Wait>(&self, rt: &R, alloc: Global, lines: &[u8]) -> bool {
+    /// Puts these lines, of which those that lie here are the first, in batches of at most this many recordings; false
+    /// where all slots are used or memory runs out before.
+    pub(crate) fn offer<R: Wait>(&self, rt: &R, alloc: Global, lines: &[u8], most: usize) -> bool {
         let from = self.slots.lock(rt).bytes.min(lines.len());
         let mut rest = &lines[from..];
         'batches: while !rest.is_empty() {
-            let (end, recordings) = first_lines(rest);
+            let (end, recordings) = first_lines(rest, most);
             if !self.put(rt, alloc, &rest[..end], recordings) {
                 return false;
             }
@@ -258,24 +258,14 @@ impl WorkQueue {
         true
     }
 
-    /// Judges a batch, and puts it back to where it lay.
-    fn judge<R: Wait, G: Gate>(
-        &self,
-        rt: &R,
-        alloc: Global,
-        kind: LineKind,
-        at: usize,
-        mut batch: Batch,
-        gate: &G,
-        worker: usize,
-    ) {
-        batch.judge(alloc, kind, gate, worker);
+    /// Puts a judged batch back to where it lay.
+    pub(crate) fn put_back<R: Wait>(&self, rt: &R, at: usize, batch: Batch) {
         self.slots.lock(rt).put_back(at, batch);
         self.was_judged.notify_one();
     }
 
     /// The next batch that waits, and where it lay; none where the queue is closed.
-    fn take<R: Wait>(&self, rt: &R) -> Option<(usize, Batch)> {
+    pub(crate) fn take<R: Wait>(&self, rt: &R) -> Option<(usize, Batch)> {
         let held = self.slots.lock(rt);
         let mut held = self.was_put.wait_while(rt, held, |slots| {
             !slots.is_closed && !slots.has_waiting()
@@ -283,49 +273,13 @@ impl WorkQueue {
         held.take()
     }
 
-    /// Judges batches until the queue is closed, or 2^64 - 1 of them.
-    pub(crate) fn work<R: Wait, G: Gate>(
-        &self,
-        rt: &R,
-        alloc: Global,
-        kind: LineKind,
-        gate: &G,
-        worker: usize,
-    ) {
-        for _ in 0..u64::MAX {
-            let Some((at, batch)) = self.take(rt) else {
-                break;
-            };
-            self.judge(rt, alloc, kind, at, batch, gate, worker);
-        }
-    }
-
     /// What the thread that collects does next. It waits only for a batch that a worker has.
-    fn turn<R: Wait>(&self, rt: &R, kept: usize) -> Turn {
+    pub(crate) fn turn<R: Wait>(&self, rt: &R, kept: usize) -> Turn {
         let held = self.slots.lock(rt);
         let mut held = self
             .was_judged
             .wait_while(rt, held, |slots| slots.is_behind(kept));
         held.turn(kept)
-    }
-
-    /// The oldest batch, judged; none where no more than this many bytes lie here, or after 2^64 - 1 turns.
-    pub(crate) fn collect<R: Wait, G: Gate>(
-        &self,
-        rt: &R,
-        alloc: Global,
-        kind: LineKind,
-        kept: usize,
-        gate: &G,
-    ) -> Option<Batch> {
-        for _ in 0..u64::MAX {
-            match self.turn(rt, kept) {
-                Turn::Over => return None,
-                Turn::Collected(batch) => return Some(batch),
-                Turn::Judge(at, batch) => self.judge(rt, alloc, kind, at, batch, gate, 0),
-            }
-        }
-        None
     }
 
     /// Ends the work of all workers.

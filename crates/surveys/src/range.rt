@@ -102,7 +102,7 @@ impl<R: Source> Source for LinesOf<R> {
 
     ghost is_ended = { λ lines. R.is_ended lines.source };
 
-    ghost read_failures = { λ lines. R.read_failures lines.source };
+    ghost read_failed = { λ lines. R.read_failed lines.source };
 
     fn pull(&mut self, buf: &mut [u8]) -> Result<usize, Failed> {
         let read = self.source.pull(buf)?;

@@ -1,10 +1,10 @@
 //! One line of a source.
 
-ghost use Rattle.std.specs.Prelude.{◌≡◌, ◌<◌, true, IfErr, IfOk, IfSome, OnOk, length, option_map};
+ghost use Rattle.std.specs.Prelude.{◌≡◌, ◌<◌, true, IfErr, IfOk, IfSome, OnOk, length, option_map, false};
 ghost use Rattle.std.specs.Io.KnownBytes.{IsAtEnd};
-ghost use Rattle.devices.specs.Bytes.{CanGrow, CountsBy};
+ghost use Rattle.devices.specs.Bytes.{FailsBy};
 ghost use Rattle.surveys.specs.Shown.{IsLineOfRead, IsReadOn, IsSought, IsSoughtFirst};
-ghost use Rattle.surveys.specs.Surveys.{IsLong, IsLongRead, survey_failed_reads, survey_failed_writes};
+ghost use Rattle.surveys.specs.Surveys.{IsLong, IsLongRead, is_read_failure, is_write_failure};
 
 use crate::error::SurveyError;
 use crate::filling::{CHUNK, fill, keep_rest, last_end};
@@ -72,14 +72,13 @@ fn read_rest<R: Source>(
     chunk: &mut [u8],
     block: &mut Vec<u8>,
 ) -> Result<(), SurveyError>
-    requires failures { CanGrow (R.read_failures source.old) }
     requires room { 0 < length chunk.old }
     ensures read { OnOk result (IsReadOn (R.left source.old) (R.left source.new)) }
     ensures met { OnOk result (R.is_ended source.new ≡ true) }
     ensures all { OnOk result (IsAtEnd (R.left source.new)) }
     ensures long { IfErr result (λ e. IsLongRead e (R.left source.old) (R.left source.new)) }
-    ensures reads { CountsBy survey_failed_reads (R.read_failures source.old) (R.read_failures source.new) result }
-    ensures writes { IfErr result (λ e. survey_failed_writes e ≡ 0) }
+    ensures reads { FailsBy is_read_failure (R.read_failed source.old) (R.read_failed source.new) result }
+    ensures writes { IfErr result (λ e. is_write_failure e ≡ false) }
 {
     let mut counted = 0usize;
     block.clear();
@@ -100,15 +99,14 @@ fn line_from<R: Source>(
     chunk: &mut [u8],
     number: usize,
 ) -> Result<Option<Vec<u8>>, SurveyError>
-    requires failures { CanGrow (R.read_failures source.old) }
     requires room { 0 < length chunk.old }
     ensures read { IfOk result (λ line. IsLineOfRead (R.left source.old) (R.left source.new) number
         (option_map (λ v. v.items) line)) }
     ensures met { OnOk result (R.is_ended source.new ≡ true) }
     ensures all { OnOk result (IsAtEnd (R.left source.new)) }
     ensures long { IfErr result (λ e. IsLongRead e (R.left source.old) (R.left source.new)) }
-    ensures reads { CountsBy survey_failed_reads (R.read_failures source.old) (R.read_failures source.new) result }
-    ensures writes { IfErr result (λ e. survey_failed_writes e ≡ 0) }
+    ensures reads { FailsBy is_read_failure (R.read_failed source.old) (R.read_failed source.new) result }
+    ensures writes { IfErr result (λ e. is_write_failure e ≡ false) }
 {
     let mut block = Vec::new(alloc);
     let mut left = number;
@@ -143,15 +141,14 @@ pub fn line_of<R: Source>(
     source: &mut R,
     number: usize,
 ) -> Result<Option<Vec<u8>>, SurveyError>
-    requires { CanGrow (R.read_failures source.old) }
     ensures read { IfOk result (λ line. IsLineOfRead (R.left source.old) (R.left source.new) number
         (option_map (λ v. v.items) line)) }
     ensures met { OnOk result (R.is_ended source.new ≡ true) }
     ensures all { OnOk result (IsAtEnd (R.left source.new)) }
     ensures long { IfErr result (λ e. IsLongRead e (R.left source.old) (R.left source.new)) }
     ensures long_known { IfErr result (λ e. IfSome (R.left source.old) (λ bytes. IsLong e (length bytes))) }
-    ensures reads { CountsBy survey_failed_reads (R.read_failures source.old) (R.read_failures source.new) result }
-    ensures writes { IfErr result (λ e. survey_failed_writes e ≡ 0) }
+    ensures reads { FailsBy is_read_failure (R.read_failed source.old) (R.read_failed source.new) result }
+    ensures writes { IfErr result (λ e. is_write_failure e ≡ false) }
 {
     let Ok(mut chunk) = Vec::from_elem(alloc, 0u8, CHUNK) else {
         return Err(SurveyError::OutOfMemory);

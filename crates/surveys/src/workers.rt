@@ -2,10 +2,8 @@
 
 ghost use Rattle.std.specs.Prelude.{◌≡◌};
 
-use crate::kind::LineKind;
-use crate::queue::WorkQueue;
+use crate::engine::Engine;
 use common::{Gate, MAX_WORKERS};
-use std::alloc::Global;
 use std::sync::Wait;
 use std::thread;
 use std::thread::{Scope, Threads};
@@ -13,15 +11,23 @@ use std::thread::{Scope, Threads};
 /// Starts the workers but the first, of this many, at most `MAX_WORKERS`. One whose thread does not start is left out.
 fn start_workers<'s, E, R: Threads + Wait + Sync, G: Gate>(
     scope: &Scope<'s, E>,
-    rt: &'s R,
-    alloc: Global,
-    kind: LineKind,
-    queue: &'s WorkQueue,
+    engine: &Engine<'s, R, G>,
     workers: usize,
-    gate: &'s G,
 ) {
+    let (rt, alloc, kind) = (engine.rt, engine.alloc, engine.kind);
+    let (each, gate, queue) = (engine.each, engine.gate, engine.queue);
     for worker in 1..workers.min(MAX_WORKERS) {
-        let _ = scope.spawn(move || queue.work(rt, alloc, kind, gate, worker));
+        let _ = scope.spawn(move || {
+            Engine {
+                rt,
+                alloc,
+                kind,
+                each,
+                gate,
+                queue,
+            }
+            .work(worker)
+        });
     }
 }
 
@@ -39,12 +45,8 @@ fn take_back<T>(x: &mut T)
 /// Calls a closure while the workers but the first, of this many, judge what it puts to the queue, and then closes the
 /// queue.
 pub(crate) fn with_workers<'a, R: Threads + Wait + Sync, G: Gate, F: FnMut() -> A, A>(
-    rt: &R,
-    alloc: Global,
-    kind: LineKind,
-    queue: &WorkQueue,
+    engine: &Engine<'_, R, G>,
     workers: usize,
-    gate: &G,
     f: &'a mut F,
 ) -> A
     requires { F.pre f.old }
@@ -53,16 +55,16 @@ pub(crate) fn with_workers<'a, R: Threads + Wait + Sync, G: Gate, F: FnMut() -> 
     let lent = Lent { f };
     let (f, answer) = thread::scope(
         thread::scope_env(),
-        rt,
+        engine.rt,
         move |scope| -> (&mut F, A)
             requires { F.pre lent.f.now }
             ensures { (result.0.ghost_name ≡ lent.entry.f.ghost_name)
                 × F.step lent.entry.f.now result.1 result.0.now }
         {
-            start_workers(scope, rt, alloc, kind, queue, workers, gate);
+            start_workers(scope, engine, workers);
             let Lent { f } = lent;
             let answer = f();
-            queue.close(rt);
+            engine.queue.close(engine.rt);
             (f, answer)
         },
     );

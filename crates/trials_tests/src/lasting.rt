@@ -118,7 +118,7 @@ struct Flushed<'a, T> {
 impl<T: Sink> Sink for Flushed<'_, T> {
     ghost written = { λ f. T.written f.inner };
 
-    ghost write_failures = { λ f. T.write_failures f.inner };
+    ghost write_failed = { λ f. T.write_failed f.inner };
 
     fn push(&mut self, text: &[u8]) -> Result<usize, Failed> {
         let n = self.inner.push(text)?;

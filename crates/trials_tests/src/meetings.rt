@@ -164,7 +164,7 @@ impl<T: Source> Source for Late<T> {
 
     ghost is_ended = { λ l. T.is_ended l.inner };
 
-    ghost read_failures = { λ l. T.read_failures l.inner };
+    ghost read_failed = { λ l. T.read_failed l.inner };
 
     fn pull(&mut self, buf: &mut [u8]) -> Result<usize, Failed> {
         if !self.is_late {

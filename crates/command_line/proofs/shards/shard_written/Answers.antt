@@ -2,7 +2,7 @@ use Rattle.std.proofs.Common.{◌≡◌, ◌∙◌, ◌+◌, ℕ, List, Option, 
 use Rattle.std.proofs.lemmas.List.{drop_all}
 use Rattle.std.proofs.lemmas.Str.Pattern.{split_once_first}
 use Rattle.std.specs.List.{before_first, position_or_len}
-use Rattle.program.specs.Numbers.{decimal_of}
+use Rattle.texts.specs.Decimals.{decimal_of}
 use Rattle.command_line.specs.Shards.{is_slash, shard_among}
 use Rattle.command_line.proofs.shards.shard_written.Goals as goal
 

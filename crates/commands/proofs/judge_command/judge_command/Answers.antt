@@ -1,18 +1,31 @@
-use Rattle.std.proofs.Common.{ℕ, List, Option, inl, inr, rules}
+use Rattle.std.proofs.Common.{◌≡◌, ◌∙◌, ℕ, List, Some, ap, inl, inr, refl, subst, sym}
 use Rattle.std.specs.Prelude.{string_bytes}
 use Rattle.command_line.specs.declared.options.JudgeOptions.{JudgeOptions}
 use Rattle.recording.specs.declared.size.RecordingSize.TheVariants.{Short}
 use Rattle.recording.specs.RecordingLaws.{recording_of_size}
 use Rattle.verdicts.specs.declared.printed.Answer.{Answer}
+use Rattle.verdicts.specs.VerdictText.{IsVerdictText}
 use Rattle.report.specs.Answer.{IsAnswerOf}
 use Rattle.verification.specs.Proof.{EveryVerdictHolds}
-use Rattle.inputs.specs.Inputs.{AreBytesOf}
+use Rattle.inputs.specs.Inputs.{AreBytesOf, Inputs}
 use Rattle.commands.specs.Judge.{AnswerHolds, IsFileAnswer}
-use Rattle.commands.proofs.Given.{all_given, flushed}
+use Rattle.commands.proofs.Given.{all_given}
 use Rattle.commands.proofs.judge_command.judge_command.Goals as goal
 
+-- an answer with the same outcome and text is one, too
+answer_again : (bytes : List ℕ) (a b : Answer) → b.outcome ≡ a.outcome → b.text.items ≡ a.text.items
+    → IsAnswerOf bytes a → IsAnswerOf bytes b
+answer_again bytes a b out text (inl (x, read, verdict, found, outcome, printed)) =
+    inl (x, read, verdict, found, out ∙ outcome, subst (λ (t : List ℕ). IsVerdictText x verdict t) (sym text) printed)
+answer_again bytes a b out text (inr refused) = inr record {
+  fault = refused.fault;
+  read = refused.read;
+  outcome = out ∙ refused.outcome;
+  line = refused.line ∙ ap (λ (t : List ℕ). Some t) (sym text);
+}
+
 -- what judge answers holds, since every text of a verdict does
-answer_holds : EveryVerdictHolds → (inputs : List ℕ → Option (List ℕ)) (o : JudgeOptions) (bytes : List ℕ)
+answer_holds : EveryVerdictHolds → (inputs : Inputs) (o : JudgeOptions) (bytes : List ℕ)
     (answer : Answer) → AreBytesOf inputs (string_bytes o.file) bytes → IsAnswerOf bytes answer
     → IsFileAnswer inputs o answer
 answer_holds law inputs o bytes answer given is = (bytes, given, (is, go is))
@@ -26,21 +39,11 @@ answer_holds law inputs o bytes answer given is = (bytes, given, (is, go is))
     )
     go (inr refused) told = absurd (told refused.outcome)
 
-pub returns-in-Ok-clause-written : goal.returns-in-Ok-clause-written
-returns-in-Ok-clause-written g c =
+pub returns-in-Ok-clause-ok : goal.returns-in-Ok-clause-ok
+returns-in-Ok-clause-ok g c =
     let (bytes, read, (answer, is, out, written)) = c.in-Ok.ensures.whole in
-    flushed _ answer _ _ _ c.in-Ok.outcome c.flush.result
-    (answer_holds c.every_verdict_holds.ensures (g.H.Host.bytes c.args.host.now) c.args.options.now bytes answer
-    (all_given _ _ _ bytes (rw c.as_str.ensures.value at c.in_ok-input.ensures.given) read c.in-Ok.ensures.all) is)
-    out written c.flush.ensures.kept c.flush.ensures.outcome
-
-pub returns-in-Err-WriteFailed-clause-written : goal.returns-in-Err-WriteFailed-clause-written
-returns-in-Err-WriteFailed-clause-written g c failed =
-    let (bytes, read, (answer, is, count, begun)) = c.answer-answered.ensures.begun (search rules) in (
-      answer,
-      answer_holds c.every_verdict_holds.ensures (g.H.Host.bytes c.args.host.now) c.args.options.now bytes answer
-          (all_given _ _ _ bytes (rw c.as_str.ensures.value at c.in_ok-input.ensures.given) read
-          (c.answer-answered.ensures.read_before (search rules)).1) is,
-      count,
-      begun,
-    )
+    let text : c.into_written.result.items ≡ answer.text.items =
+    rw (c.into_written.ensures, written, c.new-out.ensures.written) refl in
+    answer_holds c.every_verdict_holds.ensures (g.H.Host.bytes c.args.host.now) c.args.options.now bytes _
+    (all_given _ _ _ bytes (rw c.as_str.ensures.value at c.in_ok-input.ensures.given) read c.in-Ok.ensures.all)
+    (answer_again bytes answer _ out text is)

@@ -1,4 +1,4 @@
-use Rattle.std.proofs.Common.{◌≡◌, ◌∙◌, ◌++◌, ℕ, List, ap, refl, subst}
+use Rattle.std.proofs.Common.{◌∙◌, ◌++◌, ℕ, List, ap, refl, subst}
 use Rattle.merging.specs.declared.kind.Kind.{Kind}
 use Rattle.headers.specs.Headers.{header_line}
 use Rattle.commands.specs.Merge.{IsMergedAnswer, missing_line}

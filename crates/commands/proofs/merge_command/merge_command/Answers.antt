@@ -1,4 +1,4 @@
-use Rattle.std.proofs.Common.{◌≡◌, ◌∙◌, ℕ, List, Vec, Global, ap, arith, false, length, map, sym, true}
+use Rattle.std.proofs.Common.{◌∙◌, ℕ, List, Vec, Global, ap, arith, false, length, map, sym, true}
 use Rattle.std.specs.Prelude.{string_bytes}
 use Rattle.std.proofs.lemmas.List.{length-map}
 use Rattle.commands.specs.Merge.{is_headed}

@@ -1,7 +1,5 @@
-use Rattle.std.proofs.Common.{◌≡◌, ◌<◌, ◌∙◌, ℕ, List, arith, length, map, subst, sym}
-use Rattle.std.proofs.lemmas.List.{length-map}
+use Rattle.std.proofs.Common.{◌∙◌, ℕ, List, map, subst, sym}
 use Rattle.std.specs.List.{concat}
-use Rattle.std.specs.Prelude.{string_bytes}
 use Rattle.ledger.specs.declared.ledger.Ledger.{Ledger}
 use Rattle.merging.specs.declared.kind.Kind.{Kind}
 use Rattle.merging.specs.declared.kind.Kind.TheVariants.{Campaign, Survey}

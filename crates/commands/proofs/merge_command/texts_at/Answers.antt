@@ -1,10 +1,10 @@
-use Rattle.std.proofs.Common.{◌≡◌, ◌<◌, ◌+◌, ◌++◌, ◌∷◌, ◌∙◌, [], ℕ, List, Option, Vec, Global, arith, drop, get_or}
+use Rattle.std.proofs.Common.{◌≡◌, ◌<◌, ◌+◌, ◌++◌, ◌∷◌, ◌∙◌, [], ℕ, List, Vec, Global, arith, drop, get_or}
 use Rattle.std.proofs.Common.{length, map, refl, subst, sym, take}
 use Rattle.std.specs.Prelude.{string_bytes}
 use Rattle.std.proofs.lemmas.List.{length-map, map-append, take-append-drop, take_all}
 use Rattle.inputs.specs.declared.command_error.CommandError.TheVariants.{OutOfMemory}
 use Rattle.inputs.specs.declared.command_stop.CommandStop.TheVariants.{Failed}
-use Rattle.inputs.specs.Inputs.{AreBytesOf, AreRead, AreStopped, IsInputError}
+use Rattle.inputs.specs.Inputs.{AreBytesOf, AreRead, AreStopped, Inputs, IsInputError}
 use Rattle.std.specs.List.{AllZip}
 use Rattle.commands.proofs.Asking.{name_at, names_more, names_whole, read_none, read_then, stopped_after}
 use Rattle.commands.proofs.Asking.{stopped_before}
@@ -31,7 +31,7 @@ returns-in-Err-clause-err g c =
     ∙ name_at string_bytes c.args.names.now c.loop-i.i c.index-names-i.result (omega arith) c.index-names-i.is in (
       c.loop-i.i,
       omega (arith, length-map c.args.names.now string_bytes),
-      rw (← name) (subst (λ (f : List ℕ → Option (List ℕ)). IsInputError f c.as_str.result.now c.in-Err.error)
+      rw (← name) (subst (λ (f : Inputs). IsInputError f c.as_str.result.now c.in-Err.error)
           c.loop-i.invariant.kept c.in-Err.ensures.error),
     )
 
@@ -80,7 +80,7 @@ loop-i-preserved g c =
     let more : take c.loop-i.i names ++ c.as_str.result.now ∷ [] ≡ take (c.loop-i.i + 1) names =
     names_more names c.loop-i.i c.as_str.result.now low (c.as_str.ensures.value
     ∙ name_at string_bytes c.args.names.now c.loop-i.i c.index-names-i.result (omega arith) c.index-names-i.is) in
-    let given = subst (λ (f : List ℕ → Option (List ℕ)). AreBytesOf f c.as_str.result.now c.in-Ok.text.items) h.kept
+    let given = subst (λ (f : Inputs). AreBytesOf f c.as_str.result.now c.in-Ok.text.items) h.kept
     c.in-Ok.ensures.given in record {
       read = subst (λ (l : List (List ℕ)). AreRead l (g.H.Host.log c.args.host.now)
           (g.H.Host.log c.text_at.new.host)) more (read_then _ _ _ _ _ h.read c.in-Ok.ensures.reads);

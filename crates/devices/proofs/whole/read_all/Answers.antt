@@ -13,7 +13,7 @@ pub chunks-preserved : goal.chunks-preserved
 chunks-preserved g c =
     let read = c.in_ok-read_more.ensures.gathered in (
       rw read.2 (Consumes-trans _ _ _ _ _ c.chunks.invariant.0 read.1),
-      c.in_ok-read_more.ensures.count ∙ c.chunks.invariant.1,
+      c.in_ok-read_more.ensures.failed ∙ c.chunks.invariant.1,
       c.chunks.invariant.2,
     )
 

@@ -19,7 +19,7 @@ parts-preserved g c = (
       (g.W.Sink.written c.push.new.self) (take c.parts.at c.args.text.now)
       (take c.in_ok-at.field-0 (take (length c.args.text.now - c.parts.at) (drop c.parts.at c.args.text.now)))
       c.parts.invariant.0 c.in_ok-at.ensures.bytes),
-  c.in_ok-at.ensures.count ∙ c.parts.invariant.1,
+  c.in_ok-at.ensures.failed ∙ c.parts.invariant.1,
   omega (
     arith,
     ap (λ (t : List ℕ). length t) (take_rest c.args.text.now c.parts.at),

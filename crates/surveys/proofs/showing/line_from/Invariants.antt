@@ -7,7 +7,7 @@ invariant-filled g l = record {
   before :
       IsReadBeforeLine (g.R.Source.left l.fn.source) (g.R.Source.left l.source) l.block.items l.number l.left
       l.counted;
-  reads : g.R.Source.read_failures l.source ≡ g.R.Source.read_failures l.fn.source;
+  reads : g.R.Source.read_failed l.source ≡ g.R.Source.read_failed l.fn.source;
   size : length l.chunk ≡ length l.fn.chunk;
 }
 
