@@ -24,8 +24,8 @@ pub record IsLongTextAnswer (x : Execution) (before : List ℕ) (answer : Answer
   pub printed : IsLongText x found lines
   pub text : answer.text.items ≡ before ++ lines
 
--- a part of a recording after a text: where it is no larger than a program, that program, an empty line, and the line of
--- the part with the verdict on it, else the line of the part with what is answered to it
+-- a part of a recording after a text: where it is no larger than a program, that program, an empty line, and the line
+-- of the part with the verdict on it, else the line of the part with what is answered to it
 pub record IsPartAnswer (y : Execution) (before : List ℕ) (answer : Answer) : Type 0 where
   pub short : IsShortRecording y → IsVerdictAnswer y (before ++ shown_text (named_program y) y) answer
   pub long : ¬ IsShortRecording y → IsLongTextAnswer y (before ++ recording_text y) answer

@@ -92,5 +92,6 @@ pub record IsLongRendering (tells : LongAnswer → List ℕ → Type 0) (x : Exe
 -- the rendering of a recording of any length, with the labels of its events
 abbrev pub IsLongRenderedAnswer : Rendering → Execution → List (List ℕ) → Answer → Type 0
 IsLongRenderedAnswer Words x labels answer = IsLongRendering (IsExplanation x (names_of None labels)) x answer
-IsLongRenderedAnswer (Picture all) x labels answer = IsLongRendering (IsLongPicture all x (names_of None labels)) x answer
+IsLongRenderedAnswer (Picture all) x labels answer =
+    IsLongRendering (IsLongPicture all x (names_of None labels)) x answer
 IsLongRenderedAnswer Reduction x labels answer = IsLongReducedAnswer x labels answer

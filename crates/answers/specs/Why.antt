@@ -1,5 +1,6 @@
 -- Why TSO forbids what a line of a log says: what is answered of its values.
-use Rattle.std.specs.Prelude.{◌+◌, ◌==◌, ◌≡◌, ◌++◌, ◌∷◌, [], ℕ, zero, suc, Bool, true, false, if◌then◌else◌, List, Option}
+use Rattle.std.specs.Prelude.{◌+◌, ◌==◌, ◌≡◌, ◌++◌, ◌∷◌, [], ℕ, zero, suc, Bool, true, false, if◌then◌else◌, List}
+use Rattle.std.specs.Prelude.{Option}
 use Rattle.std.specs.Prelude.{Some, None, length, map, option_and_then, option_map, slice_index_or}
 use Rattle.std.specs.List.{range_with_len}
 use Rattle.std.specs.Option.{option_or}

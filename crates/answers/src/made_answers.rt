@@ -86,7 +86,8 @@ fn put_cycle_at(
     forbidden: bool,
 ) -> Result<(), OutOfMemory>
     requires { at < length cycles.now }
-    ensures { OnOk result ((line : List ℕ) × IsPick forbidden (slice_index_or (map (λ v. v.items) cycles.now) at []) line
+    ensures { OnOk result ((line : List ℕ)
+        × IsPick forbidden (slice_index_or (map (λ v. v.items) cycles.now) at []) line
         × (out.new.items ≡ out.old.items ++ line)) }
 {
     put_cycle(out, alloc, &cycles[at], forbidden)

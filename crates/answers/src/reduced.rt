@@ -10,7 +10,8 @@ ghost use Rattle.machine.specs.ProgramOf.{IsProgramOf};
 ghost use Rattle.verdicts.specs.Judgement.{IsVerdict};
 ghost use Rattle.reduction.specs.Needed.{IsOrdered};
 ghost use Rattle.reduction.specs.Restriction.{AreClosed};
-ghost use Rattle.answers.specs.Reduced.{heading, label_line, labels_left, shown_text, program_left, IsCutAnswer, IsReducedAnswer};
+ghost use Rattle.answers.specs.Reduced.{heading, label_line, labels_left, shown_text, program_left, IsCutAnswer};
+ghost use Rattle.answers.specs.Reduced.{IsReducedAnswer};
 ghost use Rattle.answers.specs.Survey.{IsLineAnswer};
 ghost use Rattle.verdicts.specs.VerdictAnswer.{IsVerdictAnswer};
 
@@ -126,7 +127,8 @@ fn program_left(
 
 /// What is left of a violation where the events alone are kept that it needs: its program, which is what is
 /// left of the given one, an empty line, and its recording with the verdict on it, after the numbers of
-/// its events and their labels where these are asked for; none where the verdict is an order. Fails only if out of memory.
+/// its events and their labels where these are asked for; none where the verdict is an order. Fails only if out of
+/// memory.
 pub(crate) fn cut_answer(
     alloc: Global,
     recording: &Recording,
@@ -153,8 +155,8 @@ pub(crate) fn cut_answer(
     }
 }
 
-/// The line of the numbers of the events that a violation needs, the labels of these, an empty line, the program of these
-/// events, an empty line, and their recording with the verdict on it; a `Violation`. Of a recording that
+/// The line of the numbers of the events that a violation needs, the labels of these, an empty line, the program of
+/// these events, an empty line, and their recording with the verdict on it; a `Violation`. Of a recording that
 /// TSO allows, its verdict. The program is what is left of the given one, of which the
 /// recording has to be one, and else that which makes the reduced recording. Fails only if out of memory.
 pub fn reduced_answer(

@@ -170,8 +170,8 @@ pub fn rendered_answer(
 }
 
 /// The rendering of a recording of any length, with the usual names of its addresses and these labels of its events: of
-/// its first memory order, of its least overlook, or of a cycle of which no event is forced before another than its next.
-/// Fails only if out of memory.
+/// its first memory order, of its least overlook, or of a cycle of which no event is forced before another than its
+/// next. Fails only if out of memory.
 pub fn long_rendered_answer(
     alloc: Global,
     rendering: Rendering,

@@ -1,7 +1,8 @@
 //! Why TSO forbids what a line of a log says.
 
 ghost use Rattle.std.specs.Prelude.{◌≡◌, ◌+◌, ◌^◌, ◌<◌, [], IfOk, length, map, option_map};
-ghost use Rattle.answers.specs.Why.{IsWhy, core_seen, cores_seen, event_seen, events_seen, final_seen, finals_seen, first_values};
+ghost use Rattle.answers.specs.Why.{IsWhy, core_seen, cores_seen, event_seen, events_seen, final_seen, finals_seen};
+ghost use Rattle.answers.specs.Why.{first_values};
 ghost use Rattle.answers.specs.Why.{value_seen, values_seen};
 
 use crate::completion_answers::completion_answer;

@@ -6,3 +6,4 @@ pub mod Members
 pub mod Rests
 pub mod Unions
 pub mod RowLemmas
+pub mod Listed

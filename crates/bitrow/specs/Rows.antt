@@ -15,6 +15,18 @@ pub record IsBitSquare (rows : List (List Bool)) : Type 0 where
 abbrev pub IsBelow : ℕ → List Bool → Type 0
 IsBelow n set = (j : ℕ) → n ≤ j → is_in set j ≡ false
 
+-- these are the numbers of the set below n, ascending
+pub record AreNumbersBelow (n : ℕ) (set : List Bool) (numbers : List ℕ) : Type 0 where
+  pub few : length numbers ≤ n
+  pub ascending : (i j : ℕ) → i < j → j < length numbers → slice_index numbers i < slice_index numbers j
+  pub within : (i : ℕ) → i < length numbers → slice_index numbers i < n
+  pub members : (i : ℕ) → i < length numbers → is_in set (slice_index numbers i) ≡ true
+  pub all : (e : ℕ) → e < n → is_in set e ≡ true → (i : ℕ) × (i < length numbers) × (slice_index numbers i ≡ e)
+
+-- these are the numbers of the set, ascending
+abbrev pub AreNumbers : List Bool → List ℕ → Type 0
+AreNumbers set numbers = AreNumbersBelow (length set) set numbers
+
 -- the numbers of the set below i got the label, and the others kept theirs
 pub record GetsLabel (set : List Bool) (i label : ℕ) (before after : List ℕ) : Type 0 where
   pub labelled : (e : ℕ) → e < i → is_in set e ≡ true → slice_index after e ≡ label

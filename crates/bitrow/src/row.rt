@@ -45,8 +45,9 @@ impl Model for BitRow {
 }
 
 impl BitRow {
-    ghost use Rattle.std.specs.Prelude.{◌≡◌, ◌<◌, ◌==◌, ◌||◌, ◌&&◌, ℕ, not, false, length, IfOk};
+    ghost use Rattle.std.specs.Prelude.{◌≡◌, ◌<◌, ◌≤◌, ◌^◌, ◌==◌, ◌||◌, ◌&&◌, ℕ, not, false, length, IfOk};
     ghost use Rattle.bitrow.specs.Bits.{bits_of, is_in, IsNext, IsWidth};
+    ghost use Rattle.bitrow.specs.Rows.{AreNumbers};
     ghost use Rattle.bitrow.specs.Walks.{walk_of};
 
     /// The empty set of numbers below a length. Fails only if out of memory.
@@ -115,6 +116,20 @@ impl BitRow {
         ensures { result ≡ walk_of self.now 0 }
     {
         Numbers::new(self.words.as_slice(), self.len)
+    }
+
+    /// The numbers of the set, ascending. Fails only if out of memory.
+    pub fn to_numbers(&self, alloc: Global) -> Result<Vec<u32>, OutOfMemory>
+        requires { length self.now ≤ 2 ^ 32 }
+        ensures { IfOk result (λ numbers. AreNumbers self.now numbers.items) }
+    {
+        let mut numbers = Vec::new(alloc);
+        for number in 0..self.len {
+            if self.test(number) {
+                numbers.push(number as u32)?;
+            }
+        }
+        Ok(numbers)
     }
 
     /// The least number in the set; none where there is none.

@@ -10,7 +10,8 @@ use Rattle.command_line.proofs.Taken.{command_is_whole}
 use Rattle.clap.specs.declared.error.Error.{Error}
 use Rattle.clap.specs.declared.error.kind.ErrorKind.TheVariants as kinds
 use Rattle.command_line.specs.declared.options.OptionStop.{OptionStop}
-use Rattle.command_line.specs.declared.options.OptionStop.TheVariants.{Clap, RefusalMeaning, RefusalMeanings, StandardInputTwice}
+use Rattle.command_line.specs.declared.options.OptionStop.TheVariants.{Clap, RefusalMeaning, RefusalMeanings}
+use Rattle.command_line.specs.declared.options.OptionStop.TheVariants.{StandardInputTwice}
 use Rattle.command_line.specs.declared.options.OptionStop.TheVariants.{Misfit, Refused}
 use Rattle.command_line.specs.declared.options.OptionStop.TheVariants.{OutOfMemory}
 use Rattle.command_line.specs.Commands.{program_app}

@@ -9,7 +9,8 @@ use Rattle.clap.specs.declared.builder.ArgAction.TheVariants.{Append, Set, SetTr
 use Rattle.clap.specs.declared.builder.value_parser.ValueParser.TheVariants.{Unsigned}
 use Rattle.command_line.specs.declared.table.CommandRow.{CommandRow}
 use Rattle.command_line.specs.declared.table.Takes.{Takes}
-use Rattle.command_line.specs.declared.table.Takes.TheVariants.{Place, MaybePlaces, Places, Text as Word, Shown, Number, Most}
+use Rattle.command_line.specs.declared.table.Takes.TheVariants.{Place, MaybePlaces, Places, Text as Word, Shown, Number}
+use Rattle.command_line.specs.declared.table.Takes.TheVariants.{Most}
 use Rattle.command_line.specs.declared.table.Takes.TheVariants.{Size, Nothing}
 
 -- the commands, each with the names of its arguments and options, and what they take

@@ -1,6 +1,7 @@
 -- What the entries of a command ask for: each option is its entry, or else its default.
 use Rattle.std.specs.Prelude.{◌≡◌, ◌≢◌, ◌&&◌, ◌||◌, ℕ, Bool, List, Option, Some, None, IfSome, codes}
-use Rattle.std.specs.Prelude.{◌+◌, ◌==◌, ◌++◌, [], ◌∷◌, ⊤, false, find, count_by, if◌then◌else◌, is_some, nat_lt, not, option_map, true}
+use Rattle.std.specs.Prelude.{◌+◌, ◌==◌, ◌++◌, [], ◌∷◌, ⊤, false, find, count_by, if◌then◌else◌, is_some, nat_lt, not}
+use Rattle.std.specs.Prelude.{option_map, true}
 use Rattle.std.specs.Prelude.{unwrap_or}
 use Rattle.std.specs.Option.{option_map_or, option_or}
 use Rattle.std.specs.List.{list_any}
@@ -13,10 +14,13 @@ use Rattle.machine.specs.declared.fault.Fault.{Fault}
 use Rattle.headers.specs.Faults.{fault_named}
 use Rattle.command_line.specs.declared.options.Limits.{Limits}
 use Rattle.command_line.specs.declared.options.Misfit.{Misfit}
-use Rattle.command_line.specs.declared.options.Misfit.TheVariants.{EachWithShow, CompleteWithShow, HeaderWithShow, ReduceWithoutShow}
+use Rattle.command_line.specs.declared.options.Misfit.TheVariants.{EachWithShow, CompleteWithShow, HeaderWithShow}
+use Rattle.command_line.specs.declared.options.Misfit.TheVariants.{ReduceWithoutShow}
 use Rattle.command_line.specs.declared.options.Misfit.TheVariants.{StatesWithoutComplete}
-use Rattle.command_line.specs.declared.options.Misfit.TheVariants.{HeaderWithComplete, HeaderWithEach, HeaderWithoutLines}
-use Rattle.command_line.specs.declared.options.Misfit.TheVariants.{RunsWithSteps, TwoQuestions, UnseenWithoutObserved, WhyWithoutObserved}
+use Rattle.command_line.specs.declared.options.Misfit.TheVariants.{HeaderWithComplete, HeaderWithEach}
+use Rattle.command_line.specs.declared.options.Misfit.TheVariants.{HeaderWithoutLines}
+use Rattle.command_line.specs.declared.options.Misfit.TheVariants.{RunsWithSteps, TwoQuestions, UnseenWithoutObserved}
+use Rattle.command_line.specs.declared.options.Misfit.TheVariants.{WhyWithoutObserved}
 use Rattle.command_line.specs.declared.options.Misfit.TheVariants.{CompleteWithLong, ProgramWithLong, ReduceWithLong}
 use Rattle.command_line.specs.declared.options.Misfit.TheVariants.{WorkersWithLong, WorkersWithoutRuns}
 use Rattle.command_line.specs.declared.options.Misfit.TheVariants.{CycleWithAll, ForbiddenWithoutAll, NoCycle}
@@ -90,11 +94,13 @@ abbrev pub questions : List Row → ℕ
 questions rows = given (codes "observed") rows + given (codes "exists") rows + given (codes "never") rows
     + given (codes "items") rows
 
--- the options of outcomes that don't go together: two that ask different things, or --unseen or --why without --observed
+-- the options of outcomes that don't go together: two that ask different things, or --unseen or --why without
+-- --observed
 abbrev pub question_misfit : List Row → Option Misfit
 question_misfit rows = if nat_lt 1 (questions rows) then Some TwoQuestions
     else (if is_given (codes "unseen") rows && (given (codes "observed") rows == 0) then Some UnseenWithoutObserved
-    else (if is_given (codes "why") rows && (given (codes "observed") rows == 0) then Some WhyWithoutObserved else None))
+    else (if is_given (codes "why") rows && (given (codes "observed") rows == 0) then Some WhyWithoutObserved
+    else None))
 
 -- the words are those of a survey without --complete: no other command has an entry for this flag
 abbrev pub surveys_recordings : List Row → Bool
@@ -148,7 +154,8 @@ abbrev pub make_misfit : List Row → Option Misfit
 make_misfit rows =
     if is_some (cycles_of rows) && not (given (codes "WORD") rows == 0) then Some CycleWithAll
     else (if makes rows && not (is_some (cycles_of rows)) && (given (codes "WORD") rows == 0) then Some NoCycle
-    else (if is_given (codes "forbidden") rows && not (is_some (cycles_of rows)) then Some ForbiddenWithoutAll else None))
+    else (if is_given (codes "forbidden") rows && not (is_some (cycles_of rows)) then Some ForbiddenWithoutAll
+    else None))
 
 -- what doesn't go together with --long: --complete, --reduce, --workers but of survey, or --program
 abbrev pub long_misfit : List Row → Option Misfit
@@ -160,8 +167,8 @@ long_misfit rows =
     else (if is_given (codes "long") rows && not (given (codes "program") rows == 0) then Some ProgramWithLong
     else None)))
 
--- the options that don't go together: --each or --header with --show, or --reduce without it, or those of survey, of outcomes, of runs,
--- of make or with --long
+-- the options that don't go together: --each or --header with --show, or --reduce without it, or those of survey, of
+-- outcomes, of runs, of make or with --long
 abbrev pub misfit_of : List Row → Option Misfit
 misfit_of rows = if is_some (show_of rows) && is_given (codes "each") rows then Some EachWithShow
     else (if is_some (show_of rows) && is_given (codes "header") rows then Some HeaderWithShow

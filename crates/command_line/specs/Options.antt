@@ -1,5 +1,6 @@
 -- The options that the words ask for.
-use Rattle.std.specs.Prelude.{◌≡◌, ◌≢◌, ◌≤◌, ◌<◌, ◌+◌, ◌%◌, ◌^◌, ℕ, List, Option, Some, None, IfSome, Ok, false, ⊤, codes, true}
+use Rattle.std.specs.Prelude.{◌≡◌, ◌≢◌, ◌≤◌, ◌<◌, ◌+◌, ◌%◌, ◌^◌, ℕ, List, Option, Some, None, IfSome, Ok, false, ⊤}
+use Rattle.std.specs.Prelude.{codes, true}
 use Rattle.std.specs.Prelude.{IsSomeAnd, if◌then◌else◌, is_some, length, map, option_map, string_bytes, []}
 use Rattle.recording.specs.declared.size.RecordingSize.{RecordingSize}
 use Rattle.recording.specs.declared.size.RecordingSize.TheVariants.{Long, Short}
@@ -9,7 +10,8 @@ use Rattle.clap.specs.declared.error.Error.{Error}
 use Rattle.clap.specs.declared.error.kind.ErrorKind.TheVariants as kinds
 use Rattle.command_line.specs.declared.options.Limits.{Limits}
 use Rattle.command_line.specs.declared.options.Options.{Options}
-use Rattle.command_line.specs.declared.options.Options.TheVariants.{Run, Judge, JudgeLong, Trials, Live, Replay, Explain, Draw, Reduce}
+use Rattle.command_line.specs.declared.options.Options.TheVariants.{Run, Judge, JudgeLong, Trials, Live, Replay}
+use Rattle.command_line.specs.declared.options.Options.TheVariants.{Explain, Draw, Reduce}
 use Rattle.command_line.specs.declared.options.Options.TheVariants.{Verify, Survey, Merge, Outcomes, Complete, Make}
 use Rattle.command_line.specs.declared.options.OutcomesOptions.{OutcomesOptions}
 use Rattle.command_line.specs.declared.options.CompleteOptions.{CompleteOptions}
@@ -36,7 +38,8 @@ use Rattle.command_line.specs.declared.options.TheConstants.{CYCLES, RUNS, STATE
 use Rattle.command_line.specs.declared.values.Values.{Values}
 use Rattle.command_line.specs.Commands.{HaveNoMistake, command_of, program_app}
 use Rattle.command_line.specs.Entries.{HasEntries, machine_fault_of, misfit_of, names_standard_input_twice}
-use Rattle.command_line.specs.Entries.{cycles_of, joined_from, names_given, number_of, number_or, number_written, show_of}
+use Rattle.command_line.specs.Entries.{cycles_of, joined_from, names_given, number_of, number_or, number_written}
+use Rattle.command_line.specs.Entries.{show_of}
 use Rattle.command_line.specs.Meanings.{asks_of_refusals, meaning_asked}
 use Rattle.clap.specs.Words.{all_of, one_of, subcommand_rows_of}
 use Rattle.clap.specs.declared.parser.matches.ArgMatches.{ArgMatches}

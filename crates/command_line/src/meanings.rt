@@ -6,8 +6,8 @@ ghost use Rattle.command_line.specs.Meanings.{is_meaning_of, is_space, meaning_i
 
 use bstr::ByteSlice;
 
-/// What `help refusals` prints: what each refusal means and, between parentheses, what to know about it. N is the number
-/// that the refusal has.
+/// What `help refusals` prints: what each refusal means and, between parentheses, what to know about it. N is the
+/// number that the refusal has.
 pub const REFUSAL_MEANINGS: &str =
     "A line `refused: ..` of standard output names one of these. N is the number that it has.
 

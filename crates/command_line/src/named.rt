@@ -1,8 +1,10 @@
 //! The options of the command with a name.
-ghost use Rattle.std.specs.Prelude.{◌≡◌, ◌≢◌, ◌+◌, ◌%◌, ◌^◌, ◌++◌, [], IfOk, List, None, OnOk, Some, codes, map, option_map, string_bytes};
+ghost use Rattle.std.specs.Prelude.{◌≡◌, ◌≢◌, ◌+◌, ◌%◌, ◌^◌, ◌++◌, [], IfOk, List, None, OnOk, Some, codes, map};
+ghost use Rattle.std.specs.Prelude.{option_map, string_bytes};
 ghost use Rattle.clap.specs.Words.{Row, first_of, found_of, rows_of};
 ghost use Rattle.command_line.specs.Entries.{HasEntries, HasText, joined_from, names_given, with_space};
-ghost use Rattle.command_line.specs.Options.{AreExplainOptions, AreMakeOptions, AreMergeOptions, AreOptionsOf, AreRunOptions};
+ghost use Rattle.command_line.specs.Options.{AreExplainOptions, AreMakeOptions, AreMergeOptions, AreOptionsOf};
+ghost use Rattle.command_line.specs.Options.{AreRunOptions};
 ghost use Rattle.command_line.specs.Options.{AreOutcomesOptions, AreSurveyOptions, AreValuesAsked, IsCompletionAsked};
 ghost use Rattle.command_line.specs.Options.{IsQuestion, size_asked};
 ghost use Rattle.command_line.specs.Refusals.{refusal_of};
@@ -244,7 +246,8 @@ fn join(words: &mut String, text: &str) -> Result<(), AllocError>
 
 /// The texts that an argument gives, with spaces between them.
 fn joined(alloc: Global, matches: &ArgMatches<'_>, id: &str) -> Result<String, AllocError>
-    ensures { IfOk result (λ words. string_bytes words ≡ joined_from [] (names_given id.now (rows_of (found_of matches.now)))) }
+    ensures { IfOk result (λ words. string_bytes words ≡ joined_from [] (names_given id.now (rows_of (found_of
+        matches.now)))) }
 {
     let mut words = String::new(alloc);
     let Some(texts) = maybe_texts(matches, id) else {

@@ -260,8 +260,8 @@ pub struct MergeOptions {
     pub partial: bool,
 }
 
-/// What `live` is asked: the name of the program, the capacity of each buffer, how many steps may be taken, and how many
-/// runs are counted.
+/// What `live` is asked: the name of the program, the capacity of each buffer, how many steps may be taken, and how
+/// many runs are counted.
 #[derive(Debug, Drop)]
 pub struct LiveOptions {
     /// The name of the program.

@@ -1,5 +1,6 @@
 -- What was read of an input whose bytes are known, and what was written.
-use Rattle.std.proofs.Common.{◌≡◌, ◌≤◌, ◌^◌, ◌++◌, ◌-◌, ◌∙◌, ℕ, List, Option, Some, None, Result, Ok, Err, IfOk, ap, arith}
+use Rattle.std.proofs.Common.{◌≡◌, ◌≤◌, ◌^◌, ◌++◌, ◌-◌, ◌∙◌, ℕ, List, Option, Some, None, Result, Ok, Err, IfOk, ap}
+use Rattle.std.proofs.Common.{arith}
 use Rattle.std.proofs.Common.{length, length-append}
 use Rattle.std.proofs.Common.{subst, sym}
 use Rattle.std.specs.Prelude.{IfSome, option_map}

@@ -2,8 +2,10 @@
 use Rattle.std.specs.Prelude.{◌≡◌, ◌++◌, ◌∷◌, [], ℕ, List, Option, None, Some, map, option_map, string_bytes}
 use Rattle.command_line.specs.declared.options.ExplainOptions.{ExplainOptions}
 use Rattle.command_line.specs.declared.options.Options.{Options}
-use Rattle.command_line.specs.declared.options.Options.TheVariants.{Run, Judge, JudgeLong, Trials, Live, Replay, Explain, Draw}
-use Rattle.command_line.specs.declared.options.Options.TheVariants.{Reduce, Verify, Survey, Merge, Outcomes, Complete, Make}
+use Rattle.command_line.specs.declared.options.Options.TheVariants.{Run, Judge, JudgeLong, Trials, Live, Replay}
+use Rattle.command_line.specs.declared.options.Options.TheVariants.{Explain, Draw}
+use Rattle.command_line.specs.declared.options.Options.TheVariants.{Reduce, Verify, Survey, Merge, Outcomes, Complete}
+use Rattle.command_line.specs.declared.options.Options.TheVariants.{Make}
 use Rattle.verdicts.specs.declared.printed.Answer.{Answer}
 use Rattle.answers.specs.declared.rendering.Rendering.TheVariants.{Words, Picture, Reduction}
 use Rattle.inputs.specs.declared.command_stop.CommandStop.{CommandStop}

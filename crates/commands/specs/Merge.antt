@@ -1,5 +1,6 @@
 -- What merge answers.
-use Rattle.std.specs.Prelude.{◌≡◌, ◌<◌, ◌+◌, ◌++◌, ◌∷◌, ◌==◌, ◌||◌, [], ℕ, Bool, List, Option, codes, decimal, false, length, map}
+use Rattle.std.specs.Prelude.{◌≡◌, ◌<◌, ◌+◌, ◌++◌, ◌∷◌, ◌==◌, ◌||◌, [], ℕ, Bool, List, Option, codes, decimal, false}
+use Rattle.std.specs.Prelude.{length, map}
 use Rattle.std.specs.Prelude.{if◌then◌else◌, slice_index, slice_index_or, string_bytes, take, true}
 use Rattle.std.specs.List.{AllZip, concat}
 use Rattle.command_line.specs.declared.options.MergeOptions.{MergeOptions}
@@ -16,7 +17,8 @@ use Rattle.merging.specs.declared.joined.Joined.{Joined}
 use Rattle.merging.specs.Ordered.{AreJoined, IsNoJoin}
 use Rattle.merging.specs.Sections.{kind_of}
 use Rattle.merging.specs.declared.error.MergeRefusal.{MergeRefusal}
-use Rattle.merging.specs.declared.error.MergeRefusal.TheVariants.{NoLine, NoCodes, NoHeader, OtherCampaign, OtherKind, TooMany}
+use Rattle.merging.specs.declared.error.MergeRefusal.TheVariants.{NoLine, NoCodes, NoHeader, OtherCampaign, OtherKind}
+use Rattle.merging.specs.declared.error.MergeRefusal.TheVariants.{TooMany}
 use Rattle.merging.specs.declared.kind.Kind.{Kind}
 use Rattle.merging.specs.declared.kind.Kind.TheVariants.{Campaign, Survey}
 use Rattle.merging.specs.Merges.{Refuses}

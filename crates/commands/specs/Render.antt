@@ -64,7 +64,8 @@ IsRecordingUnrendered inputs o stop x = IsNamesStop inputs (option_map string_by
     ⊎ ((p : Option Parts) × IsProgramGiven inputs (option_map string_bytes o.program) x p
     × IsLabellingStop inputs (option_map string_bytes o.labels) stop x)
 
--- why no recording is rendered: the recording is not read, and then nothing else is opened, or why one that is read is not
+-- why no recording is rendered: the recording is not read, and then nothing else is opened, or why one that is read is
+-- not
 abbrev pub IsRenderingStop : Inputs → ExplainOptions → CommandStop → Type 0
 IsRenderingStop inputs o stop = IsRecordingStop inputs (string_bytes o.file) o.size stop
     ⊎ OfRecording inputs (string_bytes o.file) o.size (IsRecordingUnrendered inputs o stop)

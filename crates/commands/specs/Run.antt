@@ -1,5 +1,6 @@
 -- What a program's run, or a campaign of them, is answered, and why it stops.
-use Rattle.std.specs.Prelude.{◌≡◌, ◌⊎◌, ℕ, List, Option, Some, None, Ok, if◌then◌else◌, length, option_map, string_bytes, ⊤}
+use Rattle.std.specs.Prelude.{◌≡◌, ◌⊎◌, ℕ, List, Option, Some, None, Ok, if◌then◌else◌, length, option_map}
+use Rattle.std.specs.Prelude.{string_bytes, ⊤}
 use Rattle.verdicts.specs.declared.printed.Answer.{Answer}
 use Rattle.answers.specs.Campaign.{IsCampaignAnswer, IsShownAnswer}
 use Rattle.answers.specs.Histogram.{IsLiveHistogramAnswer, IsSeededHistogramAnswer}

@@ -14,8 +14,8 @@ use std::sync::Wait;
 use std::thread::Threads;
 use verification::every_verdict_holds;
 
-/// Judges the recording of a named input, by as many workers as the options say. Unless the answer is a refusal, it holds,
-/// as `check_text` says of it too.
+/// Judges the recording of a named input, by as many workers as the options say. Unless the answer is a refusal, it
+/// holds, as `check_text` says of it too.
 pub fn judge_command<R: Threads + Wait + Sync, H: Host>(
     rt: &R,
     alloc: Global,

@@ -29,7 +29,8 @@ fn program_given<H: Host>(
     ensures ok { IfOk result (IsProgramGiven (H.bytes host.old) (option_map string_bytes name.now) recording.now) }
     ensures err { IfErr result
         (λ stop. IsNamesStop (H.bytes host.old) (option_map string_bytes name.now) stop recording.now) }
-    ensures reads { ReadsNamed (maybe_name (option_map string_bytes name.now)) (H.log host.old) (H.log host.new) result }
+    ensures reads { ReadsNamed (maybe_name (option_map string_bytes name.now)) (H.log host.old) (H.log host.new)
+        result }
     ensures kept { H.bytes host.new ≡ H.bytes host.old }
 {
     let Some(name) = name else {
@@ -53,7 +54,8 @@ fn labels_given<H: Host>(
     ensures ok { IfOk result (AreLabelsGiven (H.bytes host.old) (option_map string_bytes name.now) recording.now) }
     ensures err { IfErr result
         (λ stop. IsLabellingStop (H.bytes host.old) (option_map string_bytes name.now) stop recording.now) }
-    ensures reads { ReadsNamed (maybe_name (option_map string_bytes name.now)) (H.log host.old) (H.log host.new) result }
+    ensures reads { ReadsNamed (maybe_name (option_map string_bytes name.now)) (H.log host.old) (H.log host.new)
+        result }
 {
     match name {
         Some(name) => labels_at(alloc, host, name.as_str(), recording),

@@ -31,8 +31,8 @@ fn replayed_recording(alloc: Global, recording: &Recording) -> Result<Answer, Ou
     Ok(Answer { outcome, text })
 }
 
-/// How the first outcome of a program comes about that has the values, `No` where TSO allows none, or `unfinished` where
-/// there are more states than this. Fails only if out of memory.
+/// How the first outcome of a program comes about that has the values, `No` where TSO allows none, or `unfinished`
+/// where there are more states than this. Fails only if out of memory.
 pub(crate) fn show_answer(
     alloc: Global,
     program: &Program,

@@ -33,8 +33,8 @@ fn checked<R: Threads + Sync>(
     }
 }
 
-/// Checks whether the text of one named input is that of a verdict, or of an answer to a long recording, that holds of the
-/// recording of another.
+/// Checks whether the text of one named input is that of a verdict, or of an answer to a long recording, that holds of
+/// the recording of another.
 pub fn verify_command<R: Threads + Wait + Sync, H: Host>(
     rt: &R,
     alloc: Global,

@@ -5,8 +5,10 @@ use Rattle.std.proofs.Math.ListN as lists
 use Rattle.std.proofs.lemmas.List.{length-map, get_or_default}
 use Rattle.recording.specs.declared.event.Event.{Event}
 use Rattle.recording.specs.declared.event.Event.TheVariants.{L, S, R, C, F}
-use Rattle.recording.specs.Event.{is_plain_store, is_plain_load, read_address, written_address, value_read, value_written}
-use Rattle.recording.specs.Execution.{Execution, placed_from, event_count, core_of, event_at, initial_value, Reads, Writes}
+use Rattle.recording.specs.Event.{is_plain_store, is_plain_load, read_address, written_address, value_read}
+use Rattle.recording.specs.Event.{value_written}
+use Rattle.recording.specs.Execution.{Execution, placed_from, event_count, core_of, event_at, initial_value, Reads}
+use Rattle.recording.specs.Execution.{Writes}
 use Rattle.recording.specs.Execution.{ProgramOrder, Kept}
 use Rattle.recording.specs.EventLaws.{Writes-event}
 use Rattle.values.specs.Values.{unsourced, Values, IsCompletion}

@@ -4,7 +4,8 @@ use Rattle.std.proofs.Common.{slice_set, arith, refl, sym, ap, subst, length-set
 use Rattle.std.proofs.lemmas.Bool.{cases_eq}
 use Rattle.recording.specs.Execution.{event_count, Kept, Reads}
 use Rattle.recording.specs.Order.{Before, times}
-use Rattle.recording.specs.OrderLaws.{before_in_left, left_before_right, times_append, times_here, times_nil, times_there}
+use Rattle.recording.specs.OrderLaws.{before_in_left, left_before_right, times_append, times_here, times_nil}
+use Rattle.recording.specs.OrderLaws.{times_there}
 use Rattle.values.specs.Refused.{events_alone}
 use Rattle.values.specs.Values.{Values}
 use Rattle.completion.specs.Performed.{ArePerformed, IsSourceAfter, until}

@@ -1,13 +1,16 @@
 -- What cores and memory do next is right.
-use Rattle.std.proofs.Common.{◌≡◌, ◌≢◌, ◌<◌, ◌≤◌, ◌+◌, ◌-◌, ◌^◌, ◌==◌, ◌&&◌, ◌⊎◌, ◌↔◌, ◌∙◌, inl, inr, ℕ, Bool, true, false, cond, not}
-use Rattle.std.proofs.Common.{Option, Some, None, List, [], ◌∷◌, ◌++◌, length, get_or, is_some, slice_index, slice_set, arith, refl, sym}
+use Rattle.std.proofs.Common.{◌≡◌, ◌≢◌, ◌<◌, ◌≤◌, ◌+◌, ◌-◌, ◌^◌, ◌==◌, ◌&&◌, ◌⊎◌, ◌↔◌, ◌∙◌, inl, inr, ℕ, Bool, true}
+use Rattle.std.proofs.Common.{false, cond, not}
+use Rattle.std.proofs.Common.{Option, Some, None, List, [], ◌∷◌, ◌++◌, length, get_or, is_some, slice_index, slice_set}
+use Rattle.std.proofs.Common.{arith, refl, sym}
 use Rattle.std.proofs.Common.{ap, subst, length-set, get_or-set_same, get_or-set_other}
 use Rattle.std.specs.List.{list_any}
 use Rattle.std.proofs.lemmas.Bool.{and_parts, cases_eq, cases_lt, eqb-true}
 use Rattle.std.proofs.lemmas.List.Folds.{list_any_at}
 use Rattle.recording.specs.declared.event.Event.{Event}
 use Rattle.recording.specs.declared.event.Event.TheVariants.{L, S, R, C, F}
-use Rattle.recording.specs.Event.{is_plain_load, is_plain_store, read_address, value_read, value_written, written_address}
+use Rattle.recording.specs.Event.{is_plain_load, is_plain_store, read_address, value_read, value_written}
+use Rattle.recording.specs.Event.{written_address}
 use Rattle.recording.specs.EventLaws.{Writes-event}
 use Rattle.recording.specs.Execution.{event_at, event_count, Kept, ProgramOrder, Reads, Writes}
 use Rattle.recording.specs.Order.{times}

@@ -1,5 +1,6 @@
 -- What turns that lead to the end perform completes the values.
-use Rattle.std.proofs.Common.{◌≡◌, ◌<◌, ◌≤◌, ◌+◌, ◌-◌, ◌∙◌, ◌⊎◌, inl, inr, ℕ, zero, suc, Bool, true, false, Option, Some, None, List}
+use Rattle.std.proofs.Common.{◌≡◌, ◌<◌, ◌≤◌, ◌+◌, ◌-◌, ◌∙◌, ◌⊎◌, inl, inr, ℕ, zero, suc, Bool, true, false, Option}
+use Rattle.std.proofs.Common.{Some, None, List}
 use Rattle.std.proofs.Common.{[], ◌∷◌, map, length, get_or, arith, refl, sym, ap, subst}
 use Rattle.std.proofs.lemmas.Bool.{cases_lt}
 use Rattle.std.proofs.lemmas.List.{get_or_past, length-map}
@@ -19,7 +20,8 @@ use Rattle.values.specs.FinalLaws.{final_past}
 use Rattle.values.specs.Refused.{events_alone}
 use Rattle.values.specs.Values.{IsCompletion, Values, known_final, known_source, unsourced}
 use Rattle.completion.specs.Situation.{memory_of}
-use Rattle.completion.specs.Performed.{HaveRoom, IsLastInMemory, IsOwnStore, IsSourceAfter, IsTrail, last_of, until, writers}
+use Rattle.completion.specs.Performed.{HaveRoom, IsLastInMemory, IsOwnStore, IsSourceAfter, IsTrail, last_of, until}
+use Rattle.completion.specs.Performed.{writers}
 use Rattle.completion.specs.Search.{event_of}
 use Rattle.completion.specs.Situation.{events_of, number_of, IsEnd}
 use Rattle.situations.specs.Situation.{Situation, drained_of, place_of, waiting}
@@ -29,7 +31,8 @@ use Rattle.completion.proofs.Alone.{count_with, order_with, reads_with, value_wi
 use Rattle.completion.proofs.Alone.{with_reads, with_writes, writes_with, written_with}
 use Rattle.situations.proofs.Ranges.{between_at, length_between}
 use Rattle.completion.proofs.Numbered.{found}
-use Rattle.completion.proofs.OrderLists.{before_until, front_before, front_in, front_times, last_none, last_some, there_writer}
+use Rattle.completion.proofs.OrderLists.{before_until, front_before, front_in, front_times, last_none, last_some}
+use Rattle.completion.proofs.OrderLists.{there_writer}
 use Rattle.completion.proofs.OrderLists.{until_before, writer_there, writers_before, writers_once}
 use Rattle.completion.proofs.Reading.{second_kept}
 use Rattle.completion.proofs.Same.{no_source}

@@ -1,5 +1,6 @@
 -- Recordings of what was performed, and room for them.
-use Rattle.std.proofs.Common.{◌≡◌, ◌<◌, ◌+◌, ◌-◌, ◌^◌, ◌⊎◌, ◌∙◌, inl, inr, ℕ, Option, Some, None, List, [], map, length, get_or, arith}
+use Rattle.std.proofs.Common.{◌≡◌, ◌<◌, ◌+◌, ◌-◌, ◌^◌, ◌⊎◌, ◌∙◌, inl, inr, ℕ, Option, Some, None, List, [], map, length}
+use Rattle.std.proofs.Common.{get_or, arith}
 use Rattle.std.proofs.Common.{sym, ap, subst}
 use Rattle.std.proofs.Math.ListN as lists
 use Rattle.std.proofs.lemmas.List.{length-map}

@@ -1,6 +1,7 @@
 -- What moves lead to.
 use Rattle.std.proofs.Common.{◌≡◌, ◌<◌, ◌≤◌, ◌+◌, ◌-◌, ◌==◌, ◌&&◌, ◌⊎◌, inl, inr, ℕ, zero, suc, Bool, true, false, cond}
-use Rattle.std.proofs.Common.{Option, Some, None, List, [], ◌∷◌, min, take, length, get_or, slice_get, slice_index, arith, refl}
+use Rattle.std.proofs.Common.{Option, Some, None, List, [], ◌∷◌, min, take, length, get_or, slice_get, slice_index}
+use Rattle.std.proofs.Common.{arith, refl}
 use Rattle.std.proofs.Common.{ap, sym, ◌∙◌}
 use Rattle.std.proofs.lemmas.Bool.{and_parts, eqb-true}
 use Rattle.std.proofs.lemmas.List.{length-drop, length-take}

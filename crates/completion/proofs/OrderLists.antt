@@ -1,6 +1,7 @@
 -- Lists of events to which one more is added, and the writes among them.
 use Rattle.std.proofs.Common.{◌≡◌, ◌≢◌, ◌<◌, ◌≤◌, ◌+◌, ◌-◌, ◌⊎◌, ◌∙◌, inl, inr, ℕ, zero, suc, Bool, true, false, cond}
-use Rattle.std.proofs.Common.{Option, Some, None, List, [], ◌∷◌, ◌++◌, length, get_or, take, drop, arith, refl, sym, ap, subst}
+use Rattle.std.proofs.Common.{Option, Some, None, List, [], ◌∷◌, ◌++◌, length, get_or, take, drop, arith, refl, sym, ap}
+use Rattle.std.proofs.Common.{subst}
 use Rattle.std.proofs.Common.{length-append}
 use Rattle.std.specs.List.{filter}
 use Rattle.std.proofs.lemmas.Bool.{cases_eq, cases_lt, eq-eqb, eqb-true}
@@ -11,7 +12,8 @@ use Rattle.recording.specs.Event.{written_address}
 use Rattle.recording.specs.Execution.{event_at, Writes}
 use Rattle.recording.specs.Order.{place, times, Before}
 use Rattle.recording.specs.OrderLaws.{times_here, times_there, times_nil, times_append, place_here, place_there}
-use Rattle.recording.specs.OrderLaws.{place_in, times_in, place_one, place_within, place_append_left, place_append_right, before_in_left}
+use Rattle.recording.specs.OrderLaws.{place_in, times_in, place_one, place_within, place_append_left}
+use Rattle.recording.specs.OrderLaws.{place_append_right, before_in_left}
 use Rattle.recording.specs.PlaceLaws.{times_at, place_at}
 use Rattle.values.specs.Refused.{events_alone}
 use Rattle.values.specs.Values.{Values}

@@ -1,5 +1,6 @@
 -- What a search has seen: situations, and which of them are dead.
-use Rattle.std.specs.Prelude.{◌≡◌, ◌⊎◌, ℕ, true, false, None, Some, List, All, Contains, length, slice_get, slice_index_or}
+use Rattle.std.specs.Prelude.{◌≡◌, ◌⊎◌, ℕ, true, false, None, Some, List, All, Contains, length, slice_get}
+use Rattle.std.specs.Prelude.{slice_index_or}
 use Rattle.std.specs.List.{IsDistinct}
 use Rattle.completion.specs.declared.moves.Move.{Move}
 use Rattle.completion.specs.declared.moves.Turn.{Turn}

@@ -26,30 +26,6 @@ pub struct Left {
     pub(crate) values: Values,
 }
 
-/// The numbers of a row, ascending.
-fn numbers(
-    alloc: Global,
-    values: &Values,
-    table: &[Placed],
-    row: &BitRow,
-) -> Result<Vec<EventId>, OutOfMemory>
-    requires table { IsTable values.now table.now }
-    requires row { length row.now ≡ length table.now }
-    requires few { length table.now ≤ MAX_EVENTS }
-    ensures events { IfOk result (λ kept. AreEvents values.now kept.items) }
-    ensures same { IfOk result (λ kept. (e : ℕ) → IsMember kept.items e ↔ IsInRow row.now e) }
-    ensures few { IfOk result (λ kept. length kept.items ≤ MAX_EVENTS) }
-{
-    let _values = values;
-    let mut kept = Vec::new(alloc);
-    for event in 0..table.len() as EventId {
-        if row.test(event as usize) {
-            kept.push(event)?;
-        }
-    }
-    Ok(kept)
-}
-
 /// What is left of the events of a row where all reads that are not fed among them are taken away, which something may
 /// feed; none where that came to no end. Fails only if out of memory.
 pub(crate) fn left_of(
@@ -68,7 +44,7 @@ pub(crate) fn left_of(
     if !drop_all_unfed(values, table, &mut row) {
         return Ok(None);
     }
-    let events = numbers(alloc, values, table, &row)?;
+    let events = row.to_numbers(alloc)?;
     let rest = restricted(alloc, values, table, &row, &events)?;
     Ok(Some(Left {
         row,

@@ -1,6 +1,7 @@
 //! The order in which moves are tried.
 
-ghost use Rattle.std.specs.Prelude.{◌≡◌, ◌≤◌, ◌<◌, ◌⊎◌, ◌+◌, ℕ, Contains, IfNone, IfOk, OnOk, None, Some, length, map, slice_get, slice_index_or};
+ghost use Rattle.std.specs.Prelude.{◌≡◌, ◌≤◌, ◌<◌, ◌⊎◌, ◌+◌, ℕ, Contains, IfNone, IfOk, OnOk, None, Some, length, map};
+ghost use Rattle.std.specs.Prelude.{slice_get, slice_index_or};
 ghost use Rattle.recording.specs.declared.event.Event.TheVariants.{F};
 ghost use Rattle.recording.specs.Event.{written_address};
 ghost use Rattle.completion.specs.declared.moves.Move.{Move};
@@ -143,7 +144,8 @@ fn add(
 ) -> Result<(), OutOfMemory>
     requires square { IsSquare pairs.now }
     requires forced { AreForced values.now pairs.now }
-    ensures more { OnOk result ((t : Turn) → IsTaken values.now row.now (map (λ x. x.turn) found.old.items) t.step t.core
+    ensures more { OnOk result ((t : Turn) → IsTaken values.now row.now (map (λ x. x.turn) found.old.items) t.step
+        t.core
         → IsTaken values.now row.now (map (λ x. x.turn) found.new.items) t.step t.core) }
     ensures added { OnOk result (IsTaken values.now row.now (map (λ x. x.turn) found.new.items) turn.step turn.core) }
 {

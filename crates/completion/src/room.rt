@@ -73,8 +73,8 @@ fn has_reads(values: &Values, table: &[Placed]) -> bool
     true
 }
 
-/// Whether they are within the limits of recordings, each address that is used has an initial value, and what is known to
-/// have a write as its source reads.
+/// Whether they are within the limits of recordings, each address that is used has an initial value, and what is known
+/// to have a write as its source reads.
 pub(crate) fn have_room(values: &Values, table: &[Placed]) -> bool
     requires table { IsTable values.now table.now }
     ensures { IsTrue result ↔ HaveRoom values.now }

@@ -13,7 +13,8 @@ pub struct Seen {
 }
 
 impl Seen {
-    ghost use Rattle.std.specs.Prelude.{◌≡◌, ◌+◌, ◌^◌, ◌<◌, ◌++◌, ◌∷◌, [], IfNone, IfOk, IfSome, OnOk, Some, false, true};
+    ghost use Rattle.std.specs.Prelude.{◌≡◌, ◌+◌, ◌^◌, ◌<◌, ◌++◌, ◌∷◌, [], IfNone, IfOk, IfSome, OnOk, Some, false};
+    ghost use Rattle.std.specs.Prelude.{true};
     ghost use Rattle.std.specs.Prelude.{length, slice_get, slice_index_or, slice_set};
     ghost use Rattle.std.specs.List.{list_any};
     ghost use Rattle.situations.specs.Row.{FitsAmong, same_situation};

@@ -39,8 +39,8 @@ Turns ws i = IsTrue (is_turn (word_at ws i) (word_after ws i))
 abbrev pub HasTurn : List Word → Type 0
 HasTurn ws = (i : ℕ) × (i < length ws) × Turns ws i
 
--- words that meet come back to their first core and their first address: one word alone can't lead to another core, nor to
--- another address; where none leads to another core, one of them leads back there, and where none leads to another
+-- words that meet come back to their first core and their first address: one word alone can't lead to another core, nor
+-- to another address; where none leads to another core, one of them leads back there, and where none leads to another
 -- address, the writes of the only one begin anew somewhere
 pub record AreClosed (ws : List Word) : Type 0 where
   pub cores : count_by is_external ws ≢ 1

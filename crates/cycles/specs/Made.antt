@@ -1,5 +1,6 @@
 -- What is made of words, and why nothing is.
-use Rattle.std.specs.Prelude.{◌+◌, ◌≡◌, ◌≢◌, ◌<◌, ◌⊎◌, ◌∷◌, [], ℕ, List, Ok, Err, codes, count_by, if◌then◌else◌, length}
+use Rattle.std.specs.Prelude.{◌+◌, ◌≡◌, ◌≢◌, ◌<◌, ◌⊎◌, ◌∷◌, [], ℕ, List, Ok, Err, codes, count_by, if◌then◌else◌}
+use Rattle.std.specs.Prelude.{length}
 use Rattle.std.specs.Prelude.{min, nat_lt, slice_index}
 use Rattle.machine.specs.ProgramOf.{IsProgramOf}
 use Rattle.program.specs.declared.name.Name.{Name}

@@ -4,8 +4,8 @@ ghost use Rattle.std.specs.Prelude.{◌≡◌, map};
 ghost use Rattle.cycles.specs.Blocks.{block_end, block_events, block_start, block_text, is_alone, row_at, row_in};
 
 /// Two accesses of a core, and how the second comes before an access of the next core: the words, a number for what the
-/// first is, 1 for a store and 0 for a load, one for the access that comes next, and how many events there are but this.
-/// The last five are whole cycles of one address, with numbers of their own.
+/// first is, 1 for a store and 0 for a load, one for the access that comes next, and how many events there are but
+/// this. The last five are whole cycles of one address, with numbers of their own.
 const BLOCKS: &[(&str, u8, u8, u8)] = &[
     ("PodRR Fre", 0, 1, 2),
     ("PodRR Fre Rfe", 0, 0, 3),
@@ -31,7 +31,8 @@ pub(crate) const BLOCK_COUNT: u8 = 17;
 
 /// The row with a number.
 fn row_in(rows: &[(&'static str, u8, u8, u8)], number: u8) -> (&'static str, u8, u8, u8)
-    ensures { (result.0.now, result.1, result.2, result.3) ≡ row_in (map (λ r. (r.0.now, r.1, r.2, r.3)) rows.now) number }
+    ensures { (result.0.now, result.1, result.2, result.3) ≡ row_in (map (λ r. (r.0.now, r.1, r.2, r.3)) rows.now)
+        number }
 {
     if number as usize >= rows.len() {
         return ("", 7, 7, 0);

@@ -46,8 +46,8 @@ pub(crate) fn fence_count(words: &[Word]) -> usize
     count
 }
 
-/// Whether the accesses at which words start, their fences, and the cores and addresses to which they lead are more than
-/// a program has.
+/// Whether the accesses at which words start, their fences, and the cores and addresses to which they lead are more
+/// than a program has.
 fn are_beyond(words: &[Word]) -> bool
     ensures { IsTrue result ↔ AreBeyond words.now }
 {

@@ -4,7 +4,8 @@ ghost use Rattle.std.specs.Prelude.{◌≡◌, ◌++◌, ◌≤◌, ◌∷◌, [
 ghost use Rattle.std.specs.List.{flat_map};
 ghost use Rattle.cycles.specs.Blocks.{block_text};
 ghost use Rattle.cycles.specs.Listing.{closes, cycle_of, cycle_text, extended, follows, is_first, is_least, is_listed};
-ghost use Rattle.cycles.specs.Listing.{is_passed, is_whole, listed, listed_if, rotated, start_chain, with_block, with_space};
+ghost use Rattle.cycles.specs.Listing.{is_passed, is_whole, listed, listed_if, rotated, start_chain, with_block};
+ghost use Rattle.cycles.specs.Listing.{with_space};
 
 use crate::blocks::{BLOCK_COUNT, block_end, block_events, block_start, block_text, is_alone};
 use common::OutOfMemory;

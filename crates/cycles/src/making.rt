@@ -107,8 +107,8 @@ fn refusal_of(words: &[Word]) -> Option<CycleRefusal>
     }
 }
 
-/// The program of a cycle and the recording of it in which the cycle happens, or why there is none. Fails only if out of
-/// memory.
+/// The program of a cycle and the recording of it in which the cycle happens, or why there is none. Fails only if out
+/// of memory.
 pub fn make(alloc: Global, text: &[u8]) -> Result<Result<Made, CycleRefusal>, OutOfMemory>
     ensures { IfOk result (λ r. MatchResult r (IsMade text.now) (IsRefusal text.now)) }
 {

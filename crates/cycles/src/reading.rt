@@ -1,7 +1,8 @@
 //! Words as texts.
 
 ghost use Rattle.std.specs.Prelude.{◌≡◌, [], IfOk, MatchResult, Err, Ok, false, true};
-ghost use Rattle.cycles.specs.Reading.{in_order, is_blank, is_marked, is_no_word, letter_at, letter_by, letter_len, letters};
+ghost use Rattle.cycles.specs.Reading.{in_order, is_blank, is_marked, is_no_word, letter_at, letter_by, letter_len};
+ghost use Rattle.cycles.specs.Reading.{letters};
 ghost use Rattle.cycles.specs.Reading.{linked, read_from, with_word, word_of, words_in};
 
 use crate::word::{Letter, Link, Pair, Side, Word};

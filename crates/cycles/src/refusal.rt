@@ -7,7 +7,7 @@ pub enum CycleRefusal {
     Word(usize),
     /// E2: the words up to this number, from 1, are part of no cycle.
     Open(usize),
-    /// E3: the words up to this number, from 1, have more than `MAX_EVENTS` events, `MAX_CORES` cores or `MAX_ADDRESSES`
-    /// addresses.
+    /// E3: the words up to this number, from 1, have more than `MAX_EVENTS` events, `MAX_CORES` cores or
+    /// `MAX_ADDRESSES` addresses.
     Large(usize),
 }

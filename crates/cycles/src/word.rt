@@ -1,7 +1,8 @@
 //! The words of cycles.
 
 ghost use Rattle.std.specs.Prelude.{◌≡◌};
-ghost use Rattle.cycles.specs.Words.{agreed, ending, ends_with_store, is_external, is_fenced, is_other_address, is_turn};
+ghost use Rattle.cycles.specs.Words.{agreed, ending, ends_with_store, is_external, is_fenced, is_other_address};
+ghost use Rattle.cycles.specs.Words.{is_turn};
 ghost use Rattle.cycles.specs.Words.{kind_by, meeting, start, starts_with_store};
 
 /// What a word in program order says of the access at one of its ends.

@@ -1,5 +1,6 @@
 -- Labels of a recording's events, and the text that has them, a line each.
-use Rattle.std.specs.Prelude.{◌≡◌, ◌+◌, [], ℕ, Bool, List, Option, None, Some, Result, Ok, Err, ⊤, length, map, nat_lt, position}
+use Rattle.std.specs.Prelude.{◌≡◌, ◌+◌, [], ℕ, Bool, List, Option, None, Some, Result, Ok, Err, ⊤, length, map, nat_lt}
+use Rattle.std.specs.Prelude.{position}
 use Rattle.std.specs.Prelude.{slice_index_or}
 use Rattle.bstr.specs.Text.{lines_of, without_terminator}
 use Rattle.event_texts.specs.declared.labels.LabelError.{LabelError}

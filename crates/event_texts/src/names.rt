@@ -6,8 +6,8 @@ use indexmap::IndexSet;
 use program::Name;
 use std::marker::Model;
 
-/// The names of the addresses of a recording, and the labels of its events. An address past the last name is called by the
-/// letter a and its number.
+/// The names of the addresses of a recording, and the labels of its events. An address past the last name is called by
+/// the letter a and its number.
 #[derive(Drop)]
 pub struct Names {
     addresses: IndexSet<Name>,

@@ -1,5 +1,6 @@
 -- What one item more does to what is counted of a list.
-use Rattle.std.proofs.Common.{◌≡◌, ◌+◌, ◌++◌, ◌∷◌, ◌||◌, inl, inr, ℕ, Bool, true, false, not, List, [], Some, drop, length, slice_get}
+use Rattle.std.proofs.Common.{◌≡◌, ◌+◌, ◌++◌, ◌∷◌, ◌||◌, inl, inr, ℕ, Bool, true, false, not, List, [], Some, drop}
+use Rattle.std.proofs.Common.{length, slice_get}
 use Rattle.std.proofs.Common.{cond, add-one, arith, drop-cons, refl, ap}
 use Rattle.std.specs.Prelude.{count_by}
 use Rattle.std.specs.List.{list_any, prefix_len}

@@ -1,5 +1,5 @@
--- The text of a histogram: a line for each outcome with how many runs came to it, as litmus7 prints it, and the first of
--- them.
+-- The text of a histogram: a line for each outcome with how many runs came to it, as litmus7 prints it, and the first
+-- of them.
 use Rattle.std.specs.Prelude.{◌+◌, ◌++◌, ◌∷◌, ◌==◌, ◌%◌, ◌^◌, ℕ, Bool, true, false, if◌then◌else◌, List, [], codes}
 use Rattle.std.specs.Prelude.{decimal, length}
 use Rattle.std.specs.List.{flat_map}

@@ -47,7 +47,8 @@ fn live_run<R: Threads + Wait + Sync>(
     Ok(seen_of(alloc, traced.into_machine())?)
 }
 
-/// Counts runs of a program by threads, by their outcomes, the most frequent outcome first. Fails as `live::drive` does.
+/// Counts runs of a program by threads, by their outcomes, the most frequent outcome first. Fails as `live::drive`
+/// does.
 pub fn live_histogram<R: Threads + Wait + Sync>(
     rt: &R,
     alloc: Global,

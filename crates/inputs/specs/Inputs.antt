@@ -1,5 +1,6 @@
 -- What the inputs of a command give, and whether they were read to their ends.
-use Rattle.std.specs.Prelude.{◌≡◌, ◌||◌, ◌++◌, ◌∷◌, [], ℕ, Bool, true, false, List, Option, None, IfSome, ⊤, Result, Ok, Err}
+use Rattle.std.specs.Prelude.{◌≡◌, ◌||◌, ◌++◌, ◌∷◌, [], ℕ, Bool, true, false, List, Option, None, IfSome, ⊤, Result, Ok}
+use Rattle.std.specs.Prelude.{Err}
 use Rattle.std.specs.Prelude.{string_bytes}
 use Rattle.devices.specs.declared.host.Tally.{Tally}
 use Rattle.devices.specs.Host.{Notes, HostLog, IsIdle}

@@ -1,7 +1,8 @@
 //! The program, the recording, the values or the labels that a named input is.
 ghost use Rattle.std.specs.Prelude.{◌≡◌, ◌∷◌, [], IfErr, IfOk};
 ghost use Rattle.inputs.specs.Inputs.{ReadsNamed};
-ghost use Rattle.inputs.specs.Named.{AreLabelsAt, IsLabelsStop, IsProgramAt, IsProgramStop, IsRecordingAt, IsRecordingStop};
+ghost use Rattle.inputs.specs.Named.{AreLabelsAt, IsLabelsStop, IsProgramAt, IsProgramStop, IsRecordingAt};
+ghost use Rattle.inputs.specs.Named.{IsRecordingStop};
 ghost use Rattle.inputs.specs.Named.{AreValuesAt, IsValuesStop};
 
 use crate::command_error::CommandError;

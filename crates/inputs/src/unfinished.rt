@@ -33,8 +33,8 @@ fn asks_for_most(words: &[String]) -> bool {
     false
 }
 
-/// What a person is told of a printed text whose trials are mostly unfinished, unless the words ask for as many attempts
-/// as there may be.
+/// What a person is told of a printed text whose trials are mostly unfinished, unless the words ask for as many
+/// attempts as there may be.
 pub fn advice(words: &[String], printed: &str) -> Option<&'static str> {
     if !is_mostly_unfinished(printed) || asks_for_most(words) {
         return None;

@@ -50,8 +50,8 @@ fn least_certificate(alloc: Global, relation: &Arc<Relation>) -> Result<Certific
     }
 }
 
-/// The verdict on a recording of at most `MAX_EVENTS` events: its least overlook if there is one, else the first in dictionary
-/// order of its shortest cycles of forced pairs if there is one, else its first memory order of TSO
+/// The verdict on a recording of at most `MAX_EVENTS` events: its least overlook if there is one, else the first in
+/// dictionary order of its shortest cycles of forced pairs if there is one, else its first memory order of TSO
 /// in dictionary order (Nagarajan, Sorin, Hill and Wood, A Primer on Memory Consistency and Cache
 /// Coherence, second edition, chapter 4). It does not block. Fails only if out of memory.
 pub fn judge_alone(alloc: Global, recording: &Recording) -> Result<Verdict, OutOfMemory>

@@ -11,8 +11,8 @@ use relations::{Relation, forced_is_exact, is_overlook, ordered_is_acyclic, rela
 use std::alloc::Global;
 use verdicts::Verdict;
 
-/// Whether a verdict, whoever gave it, holds of a recording of at most `MAX_EVENTS` events: an order is a memory order of TSO, an
-/// overlook is one, a cycle has a certificate. It doesn't ask how the judge would have found it.
+/// Whether a verdict, whoever gave it, holds of a recording of at most `MAX_EVENTS` events: an order is a memory order
+/// of TSO, an overlook is one, a cycle has a certificate. It doesn't ask how the judge would have found it.
 /// Fails only if out of memory.
 pub fn verify(alloc: Global, recording: &Recording, verdict: &Verdict) -> Result<bool, OutOfMemory>
     requires { event_count recording.now ≤ MAX_EVENTS }

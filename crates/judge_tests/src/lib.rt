@@ -1,5 +1,5 @@
-//! Tests of the judge and of what it stands on: rows of bits, forced pairs, orders, certificates, texts of verdicts, and
-//! texts of values alone.
+//! Tests of the judge and of what it stands on: rows of bits, forced pairs, orders, certificates, texts of verdicts,
+//! and texts of values alone.
 #![tactic(auto)]
 
 #[cfg(test)]

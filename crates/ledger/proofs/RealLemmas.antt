@@ -1,4 +1,5 @@
--- Lemmas on counts: those that add up, with first places that fit them, are those of some codes, and all others of none.
+-- Lemmas on counts: those that add up, with first places that fit them, are those of some codes, and all others of
+-- none.
 use Rattle.std.proofs.Common.{◌≡◌, ◌+◌, ◌*◌, ◌-◌, ◌<◌, ◌≤◌, ℕ, zero, suc, Bool, true, false, cond}
 use Rattle.std.proofs.Common.{List, [], ◌∷◌, ◌++◌, Option, None, Some, arith, refl, sym, ap, subst, ◌∙◌, inl, inr}
 use Rattle.std.proofs.Common.{length, length-append, get_or, take, drop, take_all, sum, count_by, position}

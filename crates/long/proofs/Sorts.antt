@@ -1,5 +1,6 @@
 -- Sorting by pairs.
-use Rattle.std.proofs.Common.{◌≡◌, ◌≢◌, ◌<◌, ◌≤◌, ◌+◌, ◌-◌, inl, inr, ℕ, List, [], ◌∷◌, ◌++◌, get_or, set, length, arith}
+use Rattle.std.proofs.Common.{◌≡◌, ◌≢◌, ◌<◌, ◌≤◌, ◌+◌, ◌-◌, inl, inr, ℕ, List, [], ◌∷◌, ◌++◌, get_or, set, length}
+use Rattle.std.proofs.Common.{arith}
 use Rattle.std.proofs.Common.{subst, ◌∙◌, length-set, get_or-set_same, get_or-set_other}
 use Rattle.recording.specs.EnumerationLaws.{missing}
 use Rattle.recording.specs.Execution.{Execution, event_count}

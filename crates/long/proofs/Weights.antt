@@ -1,6 +1,7 @@
 -- How often events wait, where there is one pair more.
 use Rattle.std.proofs.Common.{◌≡◌, ◌≢◌, ◌<◌, ◌+◌, ◌==◌, inl, inr, ℕ, zero, suc, cond, List, [], get_or, set}
-use Rattle.std.proofs.Common.{length, replicate, arith, refl, sym, ap, subst, ◌∙◌, length-set, get_or-set_same, get_or-set_other}
+use Rattle.std.proofs.Common.{length, replicate, arith, refl, sym, ap, subst, ◌∙◌, length-set, get_or-set_same}
+use Rattle.std.proofs.Common.{get_or-set_other}
 use Rattle.std.proofs.lemmas.Bool.{cases_eq}
 use Rattle.std.proofs.lemmas.List.{length-replicate, get_or-replicate}
 use Rattle.recording.specs.Order.{times}

@@ -2,8 +2,8 @@
 use Rattle.std.specs.Prelude.{◌≡◌, ◌≢◌, ◌≤◌, ◌+◌, ℕ, zero, suc, List, [], ◌∷◌, length, slice_index, slice_index_or}
 use Rattle.recording.specs.Order.{times}
 
--- for each first event one more than the place of its last pair, 0 for none; for each pair its second event, and one more
--- than the place of the pair before it of the same first event
+-- for each first event one more than the place of its last pair, 0 for none; for each pair its second event, and one
+-- more than the place of the pair before it of the same first event
 pub record Chains : Type 0 where
   pub heads : List ℕ
   pub links : List (ℕ × ℕ)

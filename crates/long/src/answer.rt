@@ -24,10 +24,10 @@ pub enum LongAnswer {
 }
 
 /// Whether TSO allows the recording with these places, with what shows it: its least overlook if there is one, else a
-/// cycle of forced pairs of which no event is forced before another than its next, if there is one, else its first memory
-/// order of TSO in dictionary order (Nagarajan, Sorin, Hill and Wood, A Primer on Memory Consistency and Cache Coherence,
-/// second edition, chapter 4). Other cycles may be shorter. The time is nearly linear in the number of events, which no
-/// clause says. It does not block. Fails only if out of memory.
+/// cycle of forced pairs of which no event is forced before another than its next, if there is one, else its first
+/// memory order of TSO in dictionary order (Nagarajan, Sorin, Hill and Wood, A Primer on Memory Consistency and Cache
+/// Coherence, second edition, chapter 4). Other cycles may be shorter. The time is nearly linear in the number of
+/// events, which no clause says. It does not block. Fails only if out of memory.
 pub fn judge_long(alloc: Global, places: &Places<'_>) -> Result<LongAnswer, OutOfMemory>
     ensures { IfOk result (IsLongAnswer places.now) }
 {

@@ -73,8 +73,8 @@ fn all_follow(pairs: &Pairs, positions: &[u32]) -> bool
     true
 }
 
-/// Whether a list of any numbers is a memory order that TSO allows for the recording with these places. The time is linear
-/// in the number of events and in the length of the list, which no clause says. Fails only if out of memory.
+/// Whether a list of any numbers is a memory order that TSO allows for the recording with these places. The time is
+/// linear in the number of events and in the length of the list, which no clause says. Fails only if out of memory.
 pub fn is_tso_order(
     alloc: Global,
     places: &Places<'_>,

@@ -39,8 +39,8 @@ fn put_long(out: &mut Vec<u8>, places: &Places<'_>, answer: &LongAnswer) -> Resu
     }
 }
 
-/// The text of an answer to the recording with these places, and its outcome: the line of an order or of an overlook, or
-/// the length of a cycle and a line for each of its pairs, with its first reason. Fails only if out of memory.
+/// The text of an answer to the recording with these places, and its outcome: the line of an order or of an overlook,
+/// or the length of a cycle and a line for each of its pairs, with its first reason. Fails only if out of memory.
 pub fn long_text(
     alloc: Global,
     places: &Places<'_>,

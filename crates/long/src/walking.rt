@@ -27,8 +27,8 @@ fn first_with(befores: &[u32]) -> EventId
     unreachable!()
 }
 
-/// The events from one on, each the one before the event below it, as long as they differ, and the one before the last of
-/// them, which stands among them.
+/// The events from one on, each the one before the event below it, as long as they differ, and the one before the last
+/// of them, which stands among them.
 fn walk(
     alloc: Global,
     befores: &[u32],
@@ -53,7 +53,8 @@ fn walk(
 /// The events of a stack from the last one back to one that stands on it.
 fn cycle_of(alloc: Global, stack: &[EventId], first: EventId) -> Result<Vec<EventId>, OutOfMemory>
     requires { 0 < times stack.now first }
-    ensures { IfOk result (λ cycle. (x : Execution) → IsClosedStack x stack.now first → IsCycle (Forced x) cycle.items) }
+    ensures { IfOk result (λ cycle. (x : Execution) → IsClosedStack x stack.now first
+        → IsCycle (Forced x) cycle.items) }
 {
     let mut cycle = Vec::new(alloc);
     for i in 0..stack.len() {
@@ -66,7 +67,8 @@ fn cycle_of(alloc: Global, stack: &[EventId], first: EventId) -> Result<Vec<Even
     unreachable!()
 }
 
-/// A cycle of open events, each the first of a pair with the next, where each open event is the second of a pair of one.
+/// A cycle of open events, each the first of a pair with the next, where each open event is the second of a pair of
+/// one.
 pub(crate) fn cycle_left(
     alloc: Global,
     pairs: &Pairs,

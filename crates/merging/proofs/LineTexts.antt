@@ -1,6 +1,7 @@
 -- Lines, and what stands after them.
 use Rattle.std.proofs.Common.{◌≡◌, ◌∙◌, ◌<◌, ◌≤◌, ◌++◌, ◌∷◌, ℕ, List, Option, Some, ap, append_assoc, get_or, sym}
-use Rattle.std.proofs.Common.{codes, decimal, arith, inl, inr, le-ltb, lt-ltb, nat_eq, nat_lt, ne_eqb, false, refl, true}
+use Rattle.std.proofs.Common.{codes, decimal, arith, inl, inr, le-ltb, lt-ltb, nat_eq, nat_lt, ne_eqb, false, refl}
+use Rattle.std.proofs.Common.{true}
 use Rattle.std.proofs.lemmas.Bool.{cases_lt, false≢true}
 use Rattle.ledger.specs.declared.code.TheConstants.{LONG_CYCLE}
 use Rattle.ledger.specs.Counted.{cycle_line, first_line, length_name, place_name}

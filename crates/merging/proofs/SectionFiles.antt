@@ -1,5 +1,6 @@
 -- The sections of files.
-use Rattle.std.proofs.Common.{◌≡◌, ◌∙◌, ◌+◌, ◌<◌, ◌++◌, [], ◌∷◌, ℕ, List, ap, append_assoc, append-nil, arith, get_or, length}
+use Rattle.std.proofs.Common.{◌≡◌, ◌∙◌, ◌+◌, ◌<◌, ◌++◌, [], ◌∷◌, ℕ, List, ap, append_assoc, append-nil, arith, get_or}
+use Rattle.std.proofs.Common.{length}
 use Rattle.std.proofs.Common.{length-append, refl, subst, sym, take}
 use Rattle.std.specs.Prelude.{IfErr}
 use Rattle.std.specs.declared.result.Result.{Result}

@@ -1,5 +1,6 @@
 -- What begins with a section, and what does not.
-use Rattle.std.proofs.Common.{◌≡◌, ◌∙◌, ◌<◌, ◌++◌, [], ℕ, List, Option, None, Some, ◌-◌, ap, append_assoc, append-nil, arith, length, length-append, take}
+use Rattle.std.proofs.Common.{◌≡◌, ◌∙◌, ◌<◌, ◌++◌, [], ℕ, List, Option, None, Some, ◌-◌, ap, append_assoc, append-nil}
+use Rattle.std.proofs.Common.{arith, length, length-append, take}
 use Rattle.std.proofs.Common.{subst, sym}
 use Rattle.std.proofs.Math.Seq.{take-append_seam}
 use Rattle.std.specs.Prelude.{IfSome}

@@ -5,7 +5,8 @@ use Rattle.std.specs.List.{concat}
 use Rattle.ledger.specs.declared.ledger.Ledger.{Ledger}
 use Rattle.ledger.specs.Counts.{IsLedger}
 use Rattle.merging.specs.declared.error.MergeRefusal.{MergeRefusal}
-use Rattle.merging.specs.declared.error.MergeRefusal.TheVariants.{NoLine, NoCodes, OtherKind, TooMany, OtherCampaign, NoHeader}
+use Rattle.merging.specs.declared.error.MergeRefusal.TheVariants.{NoLine, NoCodes, OtherKind, TooMany, OtherCampaign}
+use Rattle.merging.specs.declared.error.MergeRefusal.TheVariants.{NoHeader}
 use Rattle.merging.specs.declared.error.TextError.{TextError}
 use Rattle.merging.specs.declared.error.TextError.TheVariants.{Refused, OutOfMemory}
 use Rattle.merging.specs.declared.kind.Kind.{Kind}

@@ -6,7 +6,8 @@ use Rattle.ledger.specs.Counts.{IsLedger}
 use Rattle.merging.specs.declared.error.MergeError.{MergeError}
 use Rattle.merging.specs.declared.error.MergeError.TheVariants as errors
 use Rattle.merging.specs.declared.error.MergeRefusal.{MergeRefusal}
-use Rattle.merging.specs.declared.error.MergeRefusal.TheVariants.{NoLine, NoCodes, OtherKind, TooMany, OtherCampaign, NoHeader}
+use Rattle.merging.specs.declared.error.MergeRefusal.TheVariants.{NoLine, NoCodes, OtherKind, TooMany, OtherCampaign}
+use Rattle.merging.specs.declared.error.MergeRefusal.TheVariants.{NoHeader}
 use Rattle.merging.specs.declared.error.TextError.{TextError}
 use Rattle.merging.specs.declared.error.TextError.TheVariants.{Refused, OutOfMemory}
 use Rattle.merging.specs.declared.kind.Kind.{Kind}

@@ -1,5 +1,6 @@
 -- Texts with headers as one: in the order of their seeds or lines.
-use Rattle.std.specs.Prelude.{◌≡◌, ◌⊎◌, ◌+◌, ◌-◌, ◌<◌, ◌≤◌, ◌^◌, [], ◌∷◌, ℕ, zero, suc, List, Option, None, length, map, option_map}
+use Rattle.std.specs.Prelude.{◌≡◌, ◌⊎◌, ◌+◌, ◌-◌, ◌<◌, ◌≤◌, ◌^◌, [], ◌∷◌, ℕ, zero, suc, List, Option, None, length, map}
+use Rattle.std.specs.Prelude.{option_map}
 use Rattle.std.specs.Prelude.{All, slice_index_or, IsPermutation, IsSortedByKey, ⊤}
 use Rattle.std.specs.List.{sum_by}
 use Rattle.std.specs.Option.{option_or}

@@ -100,8 +100,8 @@ fn text_at<'a>(texts: &[&'a [u8]], place: usize) -> &'a [u8]
     }
 }
 
-/// The counts of all these texts, of which each is one or more and all are of one kind; or the first refusal, in the order
-/// in which they are read.
+/// The counts of all these texts, of which each is one or more and all are of one kind; or the first refusal, in the
+/// order in which they are read.
 pub(crate) fn merge_texts(alloc: Global, files: &[&[u8]]) -> Result<Merged, MergeError>
     requires { 0 < length files.now }
     ensures ok { IfOk result (IsMerge (map (λ v. v.now) files.now)) }

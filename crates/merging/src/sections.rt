@@ -206,8 +206,8 @@ fn add_sections<'a>(
     Ok(())
 }
 
-/// The sections of these files, of which each has one or more and which all count the same; or the first refusal, in the
-/// order in which they are read.
+/// The sections of these files, of which each has one or more and which all count the same; or the first refusal, in
+/// the order in which they are read.
 pub(crate) fn sections<'a>(
     alloc: Global,
     files: &'a [Vec<u8>],

@@ -40,7 +40,8 @@ pub record Follows (p : List (List Op)) (n : ℕ) (s : State) (r : Situation) : 
   pub cores : (c : ℕ) → IsCoreAt (ops_of p c) (first_event p c) (place_of s c) (buffer_of s c) (row.place_of r c)
       (row.drained_of r c)
   pub memory : (a : ℕ) → a < n → slice_index r.memory a ≡ (current_copy s a).0
-  pub reads : (e : ℕ) → slice_index r.notes e ≡ value_read (event_of (placed_op p e).1 (slice_index_or s.reads e (0, None)))
+  pub reads : (e : ℕ) → slice_index r.notes e
+      ≡ value_read (event_of (placed_op p e).1 (slice_index_or s.reads e (0, None)))
   pub blocks : length s.caches.blocks ≡ n
   pub place_size : length r.places ≡ length p
   pub drained_size : length r.drained ≡ length p

@@ -11,7 +11,8 @@ use Rattle.machine.specs.State.{first_event}
 use Rattle.machine.specs.Orderly.{is_st, op_reads}
 use Rattle.outcomes.specs.declared.moves.Move.{Move}
 use Rattle.outcomes.specs.declared.moves.Move.TheVariants.{Exec, Drain}
-use Rattle.situations.specs.Situation.{Situation, drained_of, place_of, waiting, with_drained, with_note, with_place, with_value}
+use Rattle.situations.specs.Situation.{Situation, drained_of, place_of, waiting, with_drained, with_note, with_place}
+use Rattle.situations.specs.Situation.{with_value}
 use Rattle.situations.specs.Step.{stored_by_op}
 use Rattle.situations.specs.Waiting.{forwarded, none_waits, oldest}
 use Rattle.situations.specs.declared.waiting.Waiting.{Waiting}

@@ -69,8 +69,8 @@ fn endings(alloc: Global, program: &Program, rows: &Rows) -> Result<IndexSet<Out
     Ok(found)
 }
 
-/// The outcomes that TSO allows of a program, by all rows that moves lead to: each once, in dictionary order. Fails only
-/// if out of memory.
+/// The outcomes that TSO allows of a program, by all rows that moves lead to: each once, in dictionary order. Fails
+/// only if out of memory.
 pub(crate) fn listed(
     alloc: Global,
     program: &Program,

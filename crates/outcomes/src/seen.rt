@@ -6,7 +6,8 @@ ghost use Rattle.outcomes.specs.declared.moves.Move.{Move};
 ghost use Rattle.outcomes.specs.Situation.{beginning, moved};
 ghost use Rattle.situations.specs.Situation.{Situation};
 ghost use Rattle.situations.specs.Row.{FitsAmong};
-ghost use Rattle.outcomes.specs.Reachable.{AreInOrder, AreReachable, HasMore, HasMove, HasNext, HasPlace, Grows, Leads, with_next};
+ghost use Rattle.outcomes.specs.Reachable.{AreInOrder, AreReachable, HasMore, HasMove, HasNext, HasPlace, Grows, Leads};
+ghost use Rattle.outcomes.specs.Reachable.{with_next};
 
 use crate::moves::{Move, Turn};
 use crate::opening::beginning;

@@ -9,7 +9,7 @@ use Rattle.serde_json.specs.Find.{get_member}
 use Rattle.serde_json.proofs.Views.{get_member-put, get_member-put_other}
 use Rattle.recorder.specs.Reading.{count_members}
 use Rattle.json.specs.Token.{Token}
-use Rattle.recorder.specs.Pulled.{AtKey, Adds, GivesValue}
+use Rattle.recorder.specs.ByTokens.{AtKey, Adds, GivesValue}
 
 -- a value that gives x
 pub at_new : {A : Type 0} {f : Data → Option A} {key : List ℕ} (ms : Members) (d : Data) {x : A} {o : Option A}

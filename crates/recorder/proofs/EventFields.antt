@@ -10,7 +10,7 @@ use Rattle.recorder.specs.declared.plain.events.Fields.{Fields}
 use Rattle.recording.specs.declared.event.Event.{Event}
 use Rattle.recorder.specs.Reading.{natural, value_in, source_in, at_key, read_of, member_event, count_members}
 use Rattle.recorder.specs.Clipped.{clip, clip_event, clipped_number, clipped_event}
-use Rattle.recorder.specs.Pulled.{clipped_source, GivesValue, Adds}
+use Rattle.recorder.specs.ByTokens.{clipped_source, GivesValue, Adds}
 use Rattle.recorder.specs.ReadMembers.{count_of, single, AreFields}
 use Rattle.recorder.proofs.ClippedLists.{value_clipped}
 use Rattle.recorder.proofs.Somes.{map_if}

@@ -16,11 +16,11 @@ use Rattle.recorder.specs.ParsedModel.{model_of}
 use Rattle.recorder.specs.Held.{HoldsCores, HoldsLists, HoldsSome, StandsFor}
 use Rattle.recorder.specs.Reading.{natural, value_in, list_in, parsed_parts, contents_of}
 use Rattle.recorder.specs.Clipped.{clipped_number, clipped_event}
-use Rattle.recorder.specs.Pulled.{GivesValue, Adds, value_tokens}
+use Rattle.recorder.specs.ByTokens.{GivesValue, Adds, value_tokens}
 use Rattle.recorder.specs.ReadMembers.{count_of}
 use Rattle.recorder.specs.ReadMembers.{AreParts, clipped_contents, IsParsedFrom}
 use Rattle.recorder.proofs.AtKeys.{adds, at_new, at_other, at_key_is, count_new}
-use Rattle.recorder.proofs.Pulled.{fresh_value, whole_read}
+use Rattle.recorder.proofs.ByTokens.{fresh_value, whole_read}
 use Rattle.recorder.proofs.ClippedContents.{shape_given}
 
 -- ---- one member more

@@ -13,7 +13,7 @@ use Rattle.json.specs.Print.{escape}
 use Rattle.json.proofs.Printed.Strings.{content-escape, lex-escape, escape_byte_plain}
 use Rattle.json.proofs.Printed.Numbers.{lex-number, in_word-ended}
 use Rattle.json.proofs.Printed.Decimals.{IsNumber-decimal}
-use Rattle.recorder.specs.Pulled.{value_tokens, fresh_tokens, later_tokens}
+use Rattle.recorder.specs.ByTokens.{value_tokens, fresh_tokens, later_tokens}
 
 -- white space is one of these
 space_is : (x : ℕ) → is_space x ≡ true → (x ≡ 32) ⊎ ((x ≡ 9) ⊎ ((x ≡ 10) ⊎ (x ≡ 13)))

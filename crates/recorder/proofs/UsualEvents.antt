@@ -17,7 +17,7 @@ use Rattle.recording.specs.declared.event.Event.TheVariants.{L, S, R, C, F}
 use Rattle.recorder.specs.Text.{source_data, event_data}
 use Rattle.recorder.specs.Clipped.{clip, clip_event, clipped_event}
 use Rattle.recorder.specs.Written.{IsWord, IsWordSource, IsFitting}
-use Rattle.recorder.specs.Pulled.{GivesValue, value_tokens, fresh_tokens, later_tokens}
+use Rattle.recorder.specs.ByTokens.{GivesValue, value_tokens, fresh_tokens, later_tokens}
 use Rattle.recorder.specs.Usual.{tokens_of, BeginsComma, WritesEvent, EndsEvent}
 use Rattle.recorder.proofs.Again.{event_again}
 use Rattle.recorder.proofs.WrittenAgain.{event_rereads}

@@ -2,7 +2,7 @@ pub mod Text
 pub mod ParsedModel
 pub mod Reading
 pub mod Clipped
-pub mod Pulled
+pub mod ByTokens
 pub mod Names
 pub mod Held
 pub mod ReadMembers

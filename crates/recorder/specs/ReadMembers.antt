@@ -11,7 +11,7 @@ use Rattle.recorder.specs.Text.{IsReadAs}
 use Rattle.recorder.specs.ParsedModel.{ParsedModel, model_of}
 use Rattle.recorder.specs.Reading.{count_members, natural, value_in, list_in, shape_in}
 use Rattle.recorder.specs.Clipped.{clipped_number, clipped_event, clipped_shape}
-use Rattle.recorder.specs.Pulled.{clipped_source, AtKey}
+use Rattle.recorder.specs.ByTokens.{clipped_source, AtKey}
 use Rattle.recorder.specs.Held.{HoldsCores, HoldsLists, HoldsSome, StandsFor}
 
 -- 1 for what was read

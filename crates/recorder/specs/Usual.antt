@@ -8,7 +8,7 @@ use Rattle.serde_json.specs.Written.{outline}
 use Rattle.recording.specs.declared.event.Event.{Event}
 use Rattle.recorder.specs.Text.{event_data}
 use Rattle.recorder.specs.Written.{IsFitting}
-use Rattle.recorder.specs.Pulled.{value_tokens, later_tokens}
+use Rattle.recorder.specs.ByTokens.{value_tokens, later_tokens}
 
 -- the tokens of a value, before others
 abbrev pub tokens_of : Data → List Token → List Token

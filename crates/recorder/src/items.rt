@@ -4,7 +4,7 @@ ghost use Rattle.std.specs.Prelude.{◌≡◌, option_map, option_and_then, code
 ghost use Rattle.serde_json.specs.View.{view};
 ghost use Rattle.recorder.specs.Reading.{at_key, count_members};
 ghost use Rattle.recorder.specs.Clipped.{clipped_event};
-ghost use Rattle.recorder.specs.Pulled.{clipped_source};
+ghost use Rattle.recorder.specs.ByTokens.{clipped_source};
 ghost use Rattle.recorder.specs.ReadMembers.{single};
 ghost use Rattle.serde_json.specs.Find.{as_object, as_str};
 
@@ -24,7 +24,7 @@ pub(crate) trait Kind {
     ghost use Rattle.serde_json.specs.Data.{Data};
     ghost use Rattle.serde_json.specs.View.{view};
     ghost use Rattle.recording.specs.declared.size.RecordingSize.{RecordingSize};
-    ghost use Rattle.recorder.specs.Pulled.{GivesValue, value_tokens, later_tokens};
+    ghost use Rattle.recorder.specs.ByTokens.{GivesValue, value_tokens, later_tokens};
 
     /// An item.
     type Item: Drop;

@@ -15,7 +15,7 @@ ghost use Rattle.json.specs.Json.{read_key};
 ghost use Rattle.json.specs.Token.{string};
 ghost use Rattle.json.specs.Lex.{token, lex, between};
 ghost use Rattle.recorder.specs.Names.{name_of};
-ghost use Rattle.recorder.specs.Pulled.{Adds, GivesValue, GivesMembers, value_tokens, fresh_tokens, later_tokens};
+ghost use Rattle.recorder.specs.ByTokens.{Adds, GivesValue, GivesMembers, value_tokens, fresh_tokens, later_tokens};
 
 pub(crate) mod events;
 mod lists;

@@ -3,7 +3,7 @@
 ghost use Rattle.std.specs.Prelude.{◌≡◌, ◌∷◌, [], IsTrue, true, false};
 ghost use Rattle.json.specs.Word.{is_space, ends_word};
 ghost use Rattle.json.specs.Lex.{lex, between, begins_colon};
-ghost use Rattle.recorder.specs.Pulled.{later_tokens};
+ghost use Rattle.recorder.specs.ByTokens.{later_tokens};
 
 use texts::Cursor;
 

@@ -29,7 +29,7 @@ impl Model for Recording {
 impl Recording {
     ghost use Rattle.std.specs.Prelude.{◌≡◌, ◌≤◌, ◌<◌, map, ◌↔◌, MatchOption, length, IsOk};
     ghost use Rattle.std.specs.Prelude.{IfOk, IfErr};
-    ghost use Rattle.recording.specs.Execution.{event_count, event_at, core_of, write_list};
+    ghost use Rattle.recording.specs.Execution.{event_count, event_at, core_of, initial_value, write_list};
     ghost use Rattle.recording.specs.Recording.{executed, IsRecording, IsRecordingWithin};
     ghost use Rattle.recording.specs.Refusals.{IsRefusal};
 
@@ -129,5 +129,12 @@ impl Recording {
         ensures { result.now ≡ write_list self.now address }
     {
         self.parts.write_list(address)
+    }
+
+    /// The initial value of an address; 0 where there is no such address.
+    pub fn initial_value(&self, address: Addr) -> u32
+        ensures { result ≡ initial_value self.now address }
+    {
+        self.parts.initial_value(address)
     }
 }

@@ -11,7 +11,8 @@ use Rattle.recording.specs.PlaceLaws.{place_at, times_at}
 use Rattle.recording.specs.Tso.{IsWellFormed}
 use Rattle.recording.specs.FirstUse.{IsNumberedByFirstUse}
 use Rattle.reduction.specs.Laws.{IsPart}
-use Rattle.reduction.specs.Restriction.{AreClosed, address_of, with_address, with_addresses, addresses_of, kept_of}
+use Rattle.recording.specs.Event.{address_of}
+use Rattle.reduction.specs.Restriction.{AreClosed, with_address, with_addresses, addresses_of, kept_of}
 use Rattle.reduction.proofs.Places.{number_at}
 use Rattle.reduction.proofs.Restricted.{reads_down, writes_down, reads_up, writes_up}
 use Rattle.reduction.proofs.Used.{reads_use, writes_use, use_reads, used_once, used_only, with_there, with_new}

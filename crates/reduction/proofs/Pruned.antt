@@ -1,6 +1,9 @@
--- An execution of which some events alone keep what they read: its events, that it is a recording, and its forced pairs.
-use Rattle.std.proofs.Common.{◌≡◌, ◌<◌, ◌+◌, ◌≤◌, inl, inr, ℕ, zero, suc, Bool, true, false, cond, Option, Some, None, List, [], ◌∷◌}
-use Rattle.std.proofs.Common.{length-append, ◌++◌, ◌&&◌, ◌↔◌, map, length, take, get_or, arith, ap, sym, subst, refl, ◌∙◌}
+-- An execution of which some events alone keep what they read: its events, that it is a recording, and its forced
+-- pairs.
+use Rattle.std.proofs.Common.{◌≡◌, ◌<◌, ◌+◌, ◌≤◌, inl, inr, ℕ, zero, suc, Bool, true, false, cond, Option, Some, None}
+use Rattle.std.proofs.Common.{List, [], ◌∷◌}
+use Rattle.std.proofs.Common.{length-append, ◌++◌, ◌&&◌, ◌↔◌, map, length, take, get_or, arith, ap, sym, subst, refl}
+use Rattle.std.proofs.Common.{◌∙◌}
 use Rattle.recording.specs.declared.event.Event.{Event}
 use Rattle.recording.specs.declared.event.Event.TheVariants.{L, S, R, C, F}
 use Rattle.recording.specs.declared.size.RecordingSize.{RecordingSize}

@@ -30,8 +30,8 @@ IsOrder (Order m) = ⊤
 IsOrder (Overlook l s) = ⊥
 IsOrder (Cycle c) = ⊥
 
--- y is x with the events alone that the answer on x needs: those of it and the source of each, which is a store where it
--- is none of those; it has that answer
+-- y is x with the events alone that the answer on x needs: those of it and the source of each, which is a store where
+-- it is none of those; it has that answer
 pub record IsLongReduction (x : Execution) (a : LongAnswer) (ks : List ℕ) (y : Execution) : Type 0 where
   pub needed : AreNeeded (pruned x (answer_events a)) (answer_events a) ks
   pub restricted : y ≡ restriction (pruned x (answer_events a)) ks

@@ -1,22 +1,11 @@
 //! The events that are kept on each core.
 
 ghost use Rattle.std.specs.Prelude.{◌≡◌, IfOk, map};
-ghost use Rattle.recording.specs.Execution.{core_of};
 ghost use Rattle.reduction.specs.Restriction.{on_core, used_cores};
 
 use common::{CoreId, EventId, OutOfMemory};
 use recording::Recording;
 use std::alloc::Global;
-
-/// The core of an event; 0 past the last event.
-fn core_of(recording: &Recording, number: EventId) -> CoreId
-    ensures { result ≡ core_of recording.now number }
-{
-    match recording.event(number) {
-        Some((core, _)) => core,
-        None => 0,
-    }
-}
 
 /// The events that are kept on a core.
 fn on_core(
@@ -29,7 +18,7 @@ fn on_core(
 {
     let mut events = Vec::new(alloc);
     for number in kept {
-        if core_of(recording, *number) == core {
+        if recording.core_of(*number) == core {
             events.push(*number)?;
         }
     }

@@ -26,8 +26,8 @@ fn values_of(alloc: Global, init: &[u32]) -> Result<Vec<u32>, OutOfMemory>
     Ok(values)
 }
 
-/// The program that makes a recording that is no larger, whose addresses are numbered by first use, none unused: the operation
-/// that each event came from, the name `a` and its number for each address, and the initial values.
+/// The program that makes a recording that is no larger, whose addresses are numbered by first use, none unused: the
+/// operation that each event came from, the name `a` and its number for each address, and the initial values.
 /// Fails only if out of memory.
 pub fn named_program(alloc: Global, recording: &Recording) -> Result<Program, OutOfMemory>
     requires short { IsShortRecording recording.now }

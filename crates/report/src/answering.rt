@@ -21,8 +21,8 @@ use std::sync::Wait;
 use std::thread::Threads;
 use verdicts::{Answer, Outcome, recording_line, verdict_answer};
 
-/// The recording of a size that the bytes are, or what is answered to them, since they are refused. Fails only if out of
-/// memory.
+/// The recording of a size that the bytes are, or what is answered to them, since they are refused. Fails only if out
+/// of memory.
 pub fn read_or_refuse_of(
     alloc: Global,
     bytes: &[u8],
@@ -49,8 +49,8 @@ pub fn read_or_refuse(alloc: Global, bytes: &[u8]) -> Result<Result<Recording, A
     read_or_refuse_of(alloc, bytes, RecordingSize::Short)
 }
 
-/// The text of the answer to the recording of any length that the bytes are, or the line of their refusal: an order, the
-/// least overlook, or a cycle of forced pairs of which no event is forced before another than its next. It does not
+/// The text of the answer to the recording of any length that the bytes are, or the line of their refusal: an order,
+/// the least overlook, or a cycle of forced pairs of which no event is forced before another than its next. It does not
 /// block and starts no thread. Fails only if out of memory.
 pub fn long_answer(alloc: Global, bytes: &[u8]) -> Result<Answer, OutOfMemory>
     ensures { IfOk result (IsLongAnswerOf bytes.now) }

@@ -1,6 +1,7 @@
 //! Numbers as codes of a byte each.
 
-ghost use Rattle.std.specs.Prelude.{◌≡◌, ◌+◌, ◌++◌, ◌<◌, ◌≤◌, ℕ, All, Contains, IfNone, IfOk, IfSome, List, OnOk, Some, length};
+ghost use Rattle.std.specs.Prelude.{◌≡◌, ◌+◌, ◌++◌, ◌<◌, ◌≤◌, ℕ, All, Contains, IfNone, IfOk, IfSome, List, OnOk, Some};
+ghost use Rattle.std.specs.Prelude.{length};
 ghost use Rattle.std.specs.Prelude.{slice_get};
 ghost use Rattle.situations.specs.Numbers.{number_of};
 
@@ -33,7 +34,8 @@ fn place_of(number: u32, others: &[u32]) -> Option<usize>
     None
 }
 
-/// The code of a number, which is one of the large numbers from then on if it is 128 or more; none where 128 others are.
+/// The code of a number, which is one of the large numbers from then on if it is 128 or more; none where 128 others
+/// are.
 fn code_of(number: u32, large: &mut Vec<u32>) -> Result<Option<u8>, OutOfMemory>
     requires few { length large.old.items ≤ 128 }
     ensures code { IfOk result (λ o. IfSome o (λ code. number_of large.new.items code ≡ number)) }

@@ -74,8 +74,8 @@ impl Row {
         }
     }
 
-    /// The row of cores that are at these places, with these values in memory, which has no store yet, and each of so many
-    /// notes this. Fails only if out of memory.
+    /// The row of cores that are at these places, with these values in memory, which has no store yet, and each of so
+    /// many notes this. Fails only if out of memory.
     pub fn begin(
         alloc: Global,
         places: &[u32],

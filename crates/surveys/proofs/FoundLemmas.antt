@@ -1,6 +1,8 @@
 -- Lemmas on what is found: one thing in each line, so bytes have one survey.
-use Rattle.std.proofs.Common.{◌≡◌, ◌≢◌, ◌++◌, ℕ, List, [], ◌∷◌, Option, None, Some, Result, Ok, Err, arith, refl, sym, ap}
-use Rattle.std.proofs.Common.{◌∙◌, subst, inl, inr, Bool, true, false, if◌then◌else◌, option_map, option_and_then, codes}
+use Rattle.std.proofs.Common.{◌≡◌, ◌≢◌, ◌++◌, ℕ, List, [], ◌∷◌, Option, None, Some, Result, Ok, Err, arith, refl, sym}
+use Rattle.std.proofs.Common.{ap}
+use Rattle.std.proofs.Common.{◌∙◌, subst, inl, inr, Bool, true, false, if◌then◌else◌, option_map, option_and_then}
+use Rattle.std.proofs.Common.{codes}
 use Rattle.std.proofs.lemmas.Bool.{cases_lt}
 use Rattle.std.proofs.lemmas.Option.{none-some}
 use Rattle.serde_json.specs.Data.{Data}
@@ -17,7 +19,8 @@ use Rattle.recording.specs.Refusals.{HasSource, HasValue, HasWriteList, IsLeastW
 use Rattle.recording.specs.RefusalLaws.{source_of_recording}
 use Rattle.recorder.specs.ParsedModel.{ParsedModel, execution_of, IsVersioned}
 use Rattle.recorder.specs.Text.{IsReadAs}
-use Rattle.recorder.specs.Reading.{natural, value_in, event_in, list_in, at_key, count_members, parsed_parts, contents_of}
+use Rattle.recorder.specs.Reading.{natural, value_in, event_in, list_in, at_key, count_members, parsed_parts}
+use Rattle.recorder.specs.Reading.{contents_of}
 use Rattle.recorder.specs.Reading.{shape_in, Decodes, IsValuesAlone, HasOtherVersion, IsReadingResult}
 use Rattle.verdicts.specs.declared.verdict.Verdict.{Verdict}
 use Rattle.verdicts.specs.Judgement.{IsVerdict}

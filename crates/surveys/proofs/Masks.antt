@@ -1,5 +1,7 @@
 -- The lines of bytes of which others are masked.
-use Rattle.std.proofs.Common.{◌≡◌, ◌∙◌, ◌<◌, ◌++◌, ◌∷◌, [], ℕ, List, Option, None, Some, ap, append-nil, arith, is_some, if◌then◌else◌, true≢false, drop, filter, inl, inr, length, refl, suc, sym, take, true, false, zero}
+use Rattle.std.proofs.Common.{◌≡◌, ◌∙◌, ◌<◌, ◌++◌, ◌∷◌, [], ℕ, List, Option, None, Some, ap, append-nil, arith, is_some}
+use Rattle.std.proofs.Common.{if◌then◌else◌, true≢false, drop, filter, inl, inr, length, refl, suc, sym, take, true}
+use Rattle.std.proofs.Common.{false, zero}
 use Rattle.std.specs.List.{onto_first, slice_split}
 use Rattle.std.proofs.lemmas.Bool.{cases_Bool}
 use Rattle.std.proofs.lemmas.List.Elements.{filter-append}

@@ -1,5 +1,6 @@
 -- A line is found block by block.
-use Rattle.std.proofs.Common.{◌≡◌, ◌+◌, ◌<◌, ◌≤◌, ◌++◌, ◌∷◌, [], ℕ, true, List, Option, Some, None, arith, ap, refl, sym, subst, ◌∙◌}
+use Rattle.std.proofs.Common.{◌≡◌, ◌+◌, ◌<◌, ◌≤◌, ◌++◌, ◌∷◌, [], ℕ, true, List, Option, Some, None, arith, ap, refl}
+use Rattle.std.proofs.Common.{sym, subst, ◌∙◌}
 use Rattle.std.proofs.Common.{length, length-append, get_or, take, drop, append_assoc, filter}
 use Rattle.std.proofs.Common.{Vec, Global, lt-ltb}
 use Rattle.std.proofs.KnownBytes.{Consumes-nil, Consumes-trans}

@@ -99,7 +99,8 @@ impl<R, G> Engine<'_, R, G> {
         batch: Batch,
     ) -> Result<(), SurveyError>
         requires { (front : List ℕ) × (start : Option (List ℕ))
-            × IsTally self.now.kind self.now.each front counted.old.ledger counted.old.bytes start (W.written sink.old) }
+            × IsTally self.now.kind self.now.each front counted.old.ledger counted.old.bytes start
+            (W.written sink.old) }
         ensures grows { OnOk result (IsWhole batch → Grows self.now.kind self.now.each batch counted.old.ledger
             counted.old.bytes (W.written sink.old) counted.new.ledger counted.new.bytes (W.written sink.new)) }
         ensures ends { OnOk result (Ends self.now.kind self.now.each batch counted.old.ledger counted.old.bytes
@@ -128,7 +129,8 @@ impl<R, G> Engine<'_, R, G> {
         batch: Batch,
     ) -> Result<usize, SurveyError>
         requires { (front : List ℕ) × (start : Option (List ℕ))
-            × IsTally self.now.kind self.now.each front counted.old.ledger counted.old.bytes start (W.written sink.old) }
+            × IsTally self.now.kind self.now.each front counted.old.ledger counted.old.bytes start
+            (W.written sink.old) }
         ensures within { IfOk result (λ n. n ≤ length bytes.now) }
         ensures ok { IfOk result (λ n. IsTallied self.now.kind self.now.each bytes.now (drop n bytes.now)
             counted.old.ledger counted.old.bytes (W.written sink.old)

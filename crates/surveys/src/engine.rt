@@ -10,8 +10,8 @@ use std::sync::Wait;
 /// How many recordings are in a batch at most where each is reported as soon as those before it are judged.
 const REPORTED_AT_ONCE: usize = 64;
 
-/// What a survey works by: what waits, memory, what the lines are, whether each recording is reported, who hears of them,
-/// and where batches of lines wait for workers.
+/// What a survey works by: what waits, memory, what the lines are, whether each recording is reported, who hears of
+/// them, and where batches of lines wait for workers.
 #[derive(Drop)]
 pub(crate) struct Engine<'a, R, G> {
     pub(crate) rt: &'a R,

@@ -25,7 +25,8 @@ impl<R: Wait, G: Gate> Engine<'_, R, G> {
         kept: usize,
     ) -> Result<usize, SurveyError>
         requires { (front : List ℕ) × (start : Option (List ℕ))
-            × IsTally self.now.kind self.now.each front counted.old.ledger counted.old.bytes start (W.written sink.old) }
+            × IsTally self.now.kind self.now.each front counted.old.ledger counted.old.bytes start
+            (W.written sink.old) }
         ensures within { IfOk result (λ n. n ≤ length bytes.now) }
         ensures ok { IfOk result (λ n. IsTallied self.now.kind self.now.each bytes.now (drop n bytes.now)
             counted.old.ledger counted.old.bytes (W.written sink.old)
@@ -51,9 +52,9 @@ impl<R: Wait, G: Gate> Engine<'_, R, G> {
         Ok(from)
     }
 
-    /// Offers the whole lines of a block to workers, of which this many bytes have no end of a line that was not offered,
-    /// and counts those of the first batches, until at most this many bytes lie on the queue; leaves in the block what
-    /// comes after these.
+    /// Offers the whole lines of a block to workers, of which this many bytes have no end of a line that was not
+    /// offered, and counts those of the first batches, until at most this many bytes lie on the queue; leaves in the
+    /// block what comes after these.
     pub(crate) fn count_offered<W: Sink>(
         &self,
         sink: &mut W,
@@ -63,7 +64,8 @@ impl<R: Wait, G: Gate> Engine<'_, R, G> {
         kept: usize,
     ) -> Result<(), SurveyError>
         requires { (front : List ℕ) × (start : Option (List ℕ))
-            × IsTally self.now.kind self.now.each front counted.old.ledger counted.old.bytes start (W.written sink.old) }
+            × IsTally self.now.kind self.now.each front counted.old.ledger counted.old.bytes start
+            (W.written sink.old) }
         ensures ok { OnOk result (IsTallied self.now.kind self.now.each block.old.items block.new.items
             counted.old.ledger counted.old.bytes (W.written sink.old)
             counted.new.ledger counted.new.bytes (W.written sink.new)) }

@@ -11,8 +11,8 @@ pub struct LineRange {
     pub count: Option<u64>,
 }
 
-/// A source that gives the bytes of another, with an end of a line in the place of each byte outside some lines, so that
-/// these lines alone are not empty.
+/// A source that gives the bytes of another, with an end of a line in the place of each byte outside some lines, so
+/// that these lines alone are not empty.
 #[derive(Drop)]
 pub struct LinesOf<R> {
     source: R,

@@ -1,5 +1,5 @@
 -- A text that is added piece by piece.
-use Rattle.std.proofs.Common.{◌≡◌, ◌++◌, ◌∷◌, [], ◌+◌, ℕ, suc, List, Result, Ok, Err, take, ap, refl, sym, arith, ◌∙◌}
+use Rattle.std.proofs.Common.{◌≡◌, ◌++◌, ◌∷◌, [], ◌+◌, ℕ, suc, List, Result, Ok, Err, take, ap, sym, arith, ◌∙◌}
 use Rattle.std.specs.Prelude.{OnOk}
 use Rattle.std.specs.List.{flat_map}
 use Rattle.std.proofs.lemmas.Grind.{flat_map-append}
@@ -39,19 +39,6 @@ pub five_last : {X E : Type 0} (x : Result X E) (o p q r s t a b c d e : List �
     → r ≡ q ++ c → s ≡ r ++ d → OnOk x (t ≡ s ++ e) → OnOk x (t ≡ o ++ (a ++ b ++ c ++ d ++ e))
 five_last x o p q r s t a b c d e h i j k =
     two_last x o s t (a ++ b ++ c ++ d) e (four o p q r s a b c d h i j k)
-
--- two texts with numbers after them, and then a text
-pub two_numbers_last : {X E : Type 0} (x : Result X E) (o p q r a b c d e : List ℕ) → p ≡ o ++ (a ++ b)
-    → q ≡ p ++ (c ++ d) → OnOk x (r ≡ q ++ e) → OnOk x (r ≡ o ++ (a ++ b ++ c ++ d ++ e))
-two_numbers_last x o p q r a b c d e h i = five_last x o (o ++ a) p (p ++ c) q r a b c d e refl
-    (h ∙ sym (append_assoc o a b)) refl (i ∙ sym (append_assoc p c d))
-
--- two texts with numbers after them
-pub two_numbers : {X E : Type 0} (x : Result X E) (o p q a b c d : List ℕ) → p ≡ o ++ (a ++ b)
-    → OnOk x (q ≡ p ++ (c ++ d)) → OnOk x (q ≡ o ++ (a ++ b ++ c ++ d))
-two_numbers x o p q a b c d h last = four_last x o (o ++ a) p (p ++ c) q a b c d refl
-    (h ∙ sym (append_assoc o a b)) refl
-    (on_ok x (q ≡ p ++ (c ++ d)) (q ≡ p ++ c ++ d) (λ e. e ∙ sym (append_assoc p c d)) last)
 
 -- the texts of one number more
 pub next_text : (f : ℕ → List ℕ) (i : ℕ) (o p q : List ℕ) → p ≡ o ++ texts_below f i → q ≡ p ++ f i

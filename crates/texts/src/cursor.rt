@@ -1,6 +1,23 @@
 //! What is left of a text, and the numbers with which it begins.
 
+ghost use Rattle.std.specs.Prelude.{◌≡◌, ◌<◌, ◌≤◌, ◌+◌, ◌*◌, ◌^◌, None, IfSome};
+
 use std::marker::Model;
+
+/// A number below this one has 64 bits with one more digit, too.
+const ROOMY: u64 = u64::MAX / 10;
+
+/// A number with one more digit; none where it has more than 64 bits.
+fn with_digit(number: u64, digit: u64) -> Option<u64>
+    requires { digit < 10 }
+    ensures found { IfSome result (λ n. n ≡ number * 10 + digit) }
+    ensures only { result ≡ None → 2 ^ 64 ≤ number * 10 + digit }
+{
+    if number < ROOMY {
+        return Some(number * 10 + digit);
+    }
+    number.checked_mul(10)?.checked_add(digit)
+}
 
 /// What is left of a text.
 #[derive(Drop)]
@@ -97,10 +114,7 @@ impl<'a> Cursor<'a> {
             let Some(digit) = self.digit() else {
                 return Some(n);
             };
-            let Some(tens) = n.checked_mul(10) else {
-                return None;
-            };
-            let Some(next) = tens.checked_add(digit) else {
+            let Some(next) = with_digit(n, digit) else {
                 return None;
             };
             n = next;

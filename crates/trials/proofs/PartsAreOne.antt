@@ -1,5 +1,6 @@
 -- Parts of a campaign are one.
-use Rattle.std.proofs.Common.{◌≡◌, ◌∙◌, ◌+◌, ◌-◌, ◌<◌, ◌≤◌, ◌%◌, ◌^◌, ◌++◌, ℕ, List, ap, arith, get_or, inl, inr, length, length-append, refl, subst, sym, zero, suc}
+use Rattle.std.proofs.Common.{◌≡◌, ◌∙◌, ◌+◌, ◌-◌, ◌<◌, ◌≤◌, ◌%◌, ◌^◌, ◌++◌, ℕ, List, ap, arith, get_or, inl, inr}
+use Rattle.std.proofs.Common.{length, length-append, refl, subst, sym, zero, suc}
 use Rattle.std.proofs.lemmas.Bool.{cases_lt}
 use Rattle.std.proofs.lemmas.List.{get_or-append-add, get_or_append_left}
 use Rattle.std.proofs.Math.Nat.{mod-add-mod}

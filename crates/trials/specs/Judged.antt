@@ -39,8 +39,8 @@ abbrev pub IsEndVerdict : Configuration → Option Verdict → Type 0
 IsEndVerdict h None = IsAtEnd h → ⊥
 IsEndVerdict h (Some verdict) = IsAtEnd h × IsVerdict (recording_of h) verdict
 
--- the recording of a complete machine, which is one of its program and no larger, and the verdict on it, which passes its check;
--- without fault the order of what was performed is one of TSO
+-- the recording of a complete machine, which is one of its program and no larger, and the verdict on it, which passes
+-- its check; without fault the order of what was performed is one of TSO
 pub record IsJudgement (h : Configuration) (j : Judged) : Type 0 where
   pub complete : IsAtEnd h
   pub recording : j.recording ≡ recording_of h

@@ -52,8 +52,8 @@ pub extern "C" fn tsotest_judge(
     buffers::put_answer(judging::judged_answer(alloc, recording), out, len)
 }
 
-/// What `tsotest judge --long` prints of the recording that the bytes are, and its status: those of `tsotest_judge`, for
-/// recordings of up to 16,777,216 events of 1,024 cores over 65,536 addresses.
+/// What `tsotest judge --long` prints of the recording that the bytes are, and its status: those of `tsotest_judge`,
+/// for recordings of up to 16,777,216 events of 1,024 cores over 65,536 addresses.
 #[unsafe(no_mangle)]
 pub extern "C" fn tsotest_judge_long(
     alloc: Global,
@@ -156,7 +156,8 @@ pub extern "C" fn tsotest_explain_long(
     ensures status { result ≤ 3 }
     ensures allowed { result ≡ 0 → IsAnswered (IsLongRenderedOf Words recording.now) Ordered out.old out.new len.new }
     ensures no_memory { result ≡ 1 → IsNothing out.old out.new len.new }
-    ensures violation { result ≡ 2 → IsAnswered (IsLongRenderedOf Words recording.now) Violation out.old out.new len.new }
+    ensures violation { result ≡ 2 → IsAnswered (IsLongRenderedOf Words recording.now) Violation out.old out.new
+        len.new }
     ensures refused { result ≡ 3 → IsAnswered (IsLongRenderedOf Words recording.now) Refused out.old out.new len.new }
 {
     buffers::put_answer(
@@ -175,10 +176,13 @@ pub extern "C" fn tsotest_reduce_long(
     len: &mut usize,
 ) -> u8
     ensures status { result ≤ 3 }
-    ensures allowed { result ≡ 0 → IsAnswered (IsLongRenderedOf Reduction recording.now) Ordered out.old out.new len.new }
+    ensures allowed { result ≡ 0 → IsAnswered (IsLongRenderedOf Reduction recording.now) Ordered out.old out.new
+        len.new }
     ensures no_memory { result ≡ 1 → IsNothing out.old out.new len.new }
-    ensures violation { result ≡ 2 → IsAnswered (IsLongRenderedOf Reduction recording.now) Violation out.old out.new len.new }
-    ensures refused { result ≡ 3 → IsAnswered (IsLongRenderedOf Reduction recording.now) Refused out.old out.new len.new }
+    ensures violation { result ≡ 2 → IsAnswered (IsLongRenderedOf Reduction recording.now) Violation out.old out.new
+        len.new }
+    ensures refused { result ≡ 3 → IsAnswered (IsLongRenderedOf Reduction recording.now) Refused out.old out.new
+        len.new }
 {
     buffers::put_answer(
         rendering::long_rendered_answer_of(alloc, Rendering::Reduction, recording),

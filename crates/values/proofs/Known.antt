@@ -1,5 +1,6 @@
 -- The rules that values may break, one event at a time.
-use Rattle.std.proofs.Common.{◌≡◌, ◌<◌, ◌==◌, ◌⊎◌, ◌↔◌, ◌∙◌, inl, inr, ℕ, zero, suc, false, Option, Some, None, nat_eq, IsTrue, arith, sym}
+use Rattle.std.proofs.Common.{◌≡◌, ◌<◌, ◌==◌, ◌⊎◌, ◌↔◌, ◌∙◌, inl, inr, ℕ, zero, suc, false, Option, Some, None, nat_eq}
+use Rattle.std.proofs.Common.{IsTrue, arith, sym}
 use Rattle.std.proofs.Common.{ap, subst}
 use Rattle.std.proofs.lemmas.Bool.{eqb-true, eq-eqb}
 use Rattle.recording.specs.declared.event.Event.{Event}

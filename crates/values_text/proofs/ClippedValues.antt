@@ -1,4 +1,5 @@
--- What is refused of clipped values is refused of the values, and where nothing is refused of them, nothing was clipped.
+-- What is refused of clipped values is refused of the values, and where nothing is refused of them, nothing was
+-- clipped.
 use Rattle.std.proofs.Common.{◌≡◌, ◌<◌, ◌⊎◌, ◌^◌, ◌-◌, ◌+◌, inl, inr, ℕ, Option, Some, None, option_map, List, [], ◌∷◌}
 use Rattle.std.proofs.Common.{map, length, get_or, arith, refl, sym, ap, subst, ◌∙◌}
 use Rattle.std.proofs.Math.ListN.{get_or-map}

@@ -6,7 +6,7 @@ use Rattle.recording.specs.declared.event.Event.{Event}
 use Rattle.recording.specs.declared.event.Event.TheVariants.{L, S, R, C, F}
 use Rattle.recorder.specs.Reading.{natural, value_in, source_in, at_key, read_of, count_members}
 use Rattle.recorder.specs.Clipped.{clip, clip_event, clipped_number}
-use Rattle.recorder.specs.Pulled.{clipped_source}
+use Rattle.recorder.specs.ByTokens.{clipped_source}
 use Rattle.recorder.proofs.ClippedLists.{value_clipped}
 use Rattle.recorder.proofs.Somes.{map_if}
 use Rattle.values_text.specs.Reading.{KnownEvent, with_source, without_source, store_of, rmw_of, known_event}

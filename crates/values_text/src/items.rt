@@ -5,7 +5,7 @@ ghost use Rattle.serde_json.specs.View.{view};
 ghost use Rattle.serde_json.specs.Find.{as_object};
 ghost use Rattle.recorder.specs.Reading.{at_key, count_members, value_in};
 ghost use Rattle.recorder.specs.Clipped.{clipped_number};
-ghost use Rattle.recorder.specs.Pulled.{clipped_source};
+ghost use Rattle.recorder.specs.ByTokens.{clipped_source};
 ghost use Rattle.values_text.specs.Reading.{with_source, without_source};
 ghost use Rattle.values_text.specs.Clipped.{clipped_known};
 

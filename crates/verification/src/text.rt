@@ -22,9 +22,9 @@ use std::thread::Threads;
 /// with its first reason, and labels of at most 16 bits that show that none is shorter. With more than one worker the
 /// labels are checked by threads. The numbers of the text are read whatever stands between them; the verdict of these
 /// numbers is checked, printed and compared. Else the first line that differs from what is printed, as far as the
-/// numbers hold: a row of labels holds where it shows that no cycle through its event is shorter. Any bytes will do. The
-/// memory that it takes goes with the square of the number of events, however long the text is. Fails only if out of
-/// memory.
+/// numbers hold: a row of labels holds where it shows that no cycle through its event is shorter. Any bytes will do.
+/// The memory that it takes goes with the square of the number of events, however long the text is. Fails only if out
+/// of memory.
 pub fn check_text<R: Threads + Sync>(
     rt: &R,
     alloc: Global,

@@ -3,7 +3,7 @@
 ghost use Rattle.std.specs.Prelude.{◌≡◌, ℕ, suc, ◌∷◌, [], Some, None, IsSome, IfSome, option_and_then, ◌+◌};
 ghost use Rattle.recorder.specs.Clipped.{clipped_event};
 ghost use Rattle.recorder.specs.Reading.{member_event};
-ghost use Rattle.recorder.specs.Pulled.{Adds, GivesValue, GivesMembers, value_tokens, fresh_tokens, later_tokens};
+ghost use Rattle.recorder.specs.ByTokens.{Adds, GivesValue, GivesMembers, value_tokens, fresh_tokens, later_tokens};
 ghost use Rattle.recorder.specs.ReadMembers.{AreFields, count_of};
 ghost use Rattle.serde_json.specs.Data.{no_members};
 

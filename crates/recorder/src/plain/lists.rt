@@ -3,7 +3,7 @@
 
 ghost use Rattle.std.specs.Prelude.{ℕ, List, suc, map, IfOk, IfSome};
 ghost use Rattle.recorder.specs.Reading.{list_in};
-ghost use Rattle.recorder.specs.Pulled.{GivesValue, value_tokens, later_tokens};
+ghost use Rattle.recorder.specs.ByTokens.{GivesValue, value_tokens, later_tokens};
 
 use crate::items::Kind;
 use crate::spaced::take_sign;

@@ -7,7 +7,7 @@ ghost use Rattle.json.specs.Word.{ends_word};
 ghost use Rattle.serde_json.specs.Written.{compact_text};
 ghost use Rattle.recorder.specs.Text.{source_data};
 ghost use Rattle.recorder.specs.Written.{IsWord, IsWordSource};
-ghost use Rattle.recorder.specs.Pulled.{later_tokens};
+ghost use Rattle.recorder.specs.ByTokens.{later_tokens};
 ghost use Rattle.recorder.specs.Usual.{tokens_of, BeginsComma, WritesEvent, EndsEvent};
 
 use crate::plain::values::take_digits;

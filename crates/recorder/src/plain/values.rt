@@ -8,8 +8,8 @@ ghost use Rattle.json.specs.Lex.{token, lex, between};
 ghost use Rattle.serde_json.specs.Find.{as_str};
 ghost use Rattle.recorder.specs.Reading.{natural, value_word, value_in};
 ghost use Rattle.recorder.specs.Clipped.{clip, clipped_number};
-ghost use Rattle.recorder.specs.Pulled.{GivesValue, clipped_source};
-ghost use Rattle.recorder.specs.Pulled.{value_tokens, fresh_tokens, later_tokens};
+ghost use Rattle.recorder.specs.ByTokens.{GivesValue, clipped_source};
+ghost use Rattle.recorder.specs.ByTokens.{value_tokens, fresh_tokens, later_tokens};
 
 use crate::spaced::{ends_member, ends_word, skip_space, take_sign};
 use common::EventId;

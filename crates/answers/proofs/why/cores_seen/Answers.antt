@@ -1,4 +1,5 @@
-use Rattle.std.proofs.Common.{◌≡◌, ◌∙◌, ◌<◌, ◌+◌, ◌-◌, ◌++◌, ◌∷◌, [], ℕ, suc, List, Option, Some, None, ap, arith, length, map, sym}
+use Rattle.std.proofs.Common.{◌≡◌, ◌∙◌, ◌<◌, ◌+◌, ◌-◌, ◌++◌, ◌∷◌, [], ℕ, suc, List, Option, Some, None, ap, arith}
+use Rattle.std.proofs.Common.{length, map, sym}
 use Rattle.std.proofs.Common.{option_and_then, Vec, Global}
 use Rattle.std.proofs.lemmas.List.{map-append}
 use Rattle.program.specs.Parts.{Parts}

@@ -1,7 +1,8 @@
 use Rattle.std.proofs.Common.{◌≡◌, true, false, sym, ◌∙◌}
 use Rattle.completion.proofs.Fed.{leaves_unfed}
 use Rattle.completion.proofs.dropping.drop_unfed.Goals as goal
-use Rattle.completion.proofs.dropping.drop_unfed.Goals.{then-not-test-via-then-not-test, then-not-test-via-else-not-test+then-may_stay}
+use Rattle.completion.proofs.dropping.drop_unfed.Goals.{then-not-test-via-then-not-test}
+use Rattle.completion.proofs.dropping.drop_unfed.Goals.{then-not-test-via-else-not-test+then-may_stay}
 
 pub returns-then-not-test-clause-stays : goal.returns-then-not-test-clause-stays
 returns-then-not-test-clause-stays c same inside s may = elim c.then-not-test.branch [

@@ -2,7 +2,9 @@ use Rattle.std.proofs.Common.{◌≡◌, true, false, arith, sym, ◌∙◌}
 use Rattle.completion.proofs.Alone.{table_size}
 use Rattle.completion.proofs.Fed.{needed_more, tried_needed}
 use Rattle.completion.proofs.part.try_each.Goals as goal
-use Rattle.completion.proofs.part.try_each.Goals.{then-test+in_ok-row+in_ok-tried+else-not-is_allowed+in-Less-1, then-test+in_ok-row+in_ok-tried+else-not-is_allowed+in-Allowed-1, else-test}
+use Rattle.completion.proofs.part.try_each.Goals.{then-test+in_ok-row+in_ok-tried+else-not-is_allowed+in-Less-1}
+use Rattle.completion.proofs.part.try_each.Goals.{then-test+in_ok-row+in_ok-tried+else-not-is_allowed+in-Allowed-1}
+use Rattle.completion.proofs.part.try_each.Goals.{else-test}
 
 pub test-requires : goal.test-requires
 test-requires c = omega (

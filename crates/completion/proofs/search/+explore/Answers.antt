@@ -1,4 +1,5 @@
-use Rattle.std.proofs.Common.{◌≡◌, ◌<◌, ◌+◌, ◌-◌, ◌^◌, ◌∙◌, inl, inr, ℕ, Option, Some, List, length, get_or, vec_len, arith, ap, sym, subst}
+use Rattle.std.proofs.Common.{◌≡◌, ◌<◌, ◌+◌, ◌-◌, ◌^◌, ◌∙◌, inl, inr, ℕ, Option, Some, List, length, get_or, vec_len}
+use Rattle.std.proofs.Common.{arith, ap, sym, subst}
 use Rattle.std.proofs.lemmas.Bool.{cases_eq}
 use Rattle.std.proofs.lemmas.List.{get_or_default}
 use Rattle.values.specs.Values.{Values}
@@ -11,7 +12,8 @@ use Rattle.completion.specs.Seen.{Grows, HasNumber, IsTaken, IsVain}
 use Rattle.completion.specs.Situation.{beginning, moved}
 use Rattle.situations.specs.Situation.{Situation}
 use Rattle.completion.proofs.Rank.{rank, most_rank}
-use Rattle.completion.proofs.Vain.{all_vain, buried_dead, buried_grows, buried_searched, grows_on, popped, step_comes, step_falls, vain_still}
+use Rattle.completion.proofs.Vain.{all_vain, buried_dead, buried_grows, buried_searched, grows_on, popped, step_comes}
+use Rattle.completion.proofs.Vain.{step_falls, vain_still}
 use Rattle.completion.proofs.search.+explore.Goals as goal
 use Rattle.completion.proofs.search.+explore.Goals.{in-Vain, in-Row+in_ok-came-in-Row+in-Dead}
 

@@ -1,5 +1,7 @@
-use Rattle.std.proofs.Common.{◌≡◌, ◌∙◌, ◌+◌, ◌<◌, ◌++◌, ◌∷◌, [], List, Ok, Option, Result, ap, arith, length, map, slice_index_or, subst, suc, sym, take, ℕ}
-use Rattle.std.proofs.lemmas.List.{append_assoc, get_or-set_other, length-append, length-map, length-set, length-take, map-append}
+use Rattle.std.proofs.Common.{◌≡◌, ◌∙◌, ◌+◌, ◌<◌, ◌++◌, ◌∷◌, [], List, Ok, Option, Result, ap, arith, length, map}
+use Rattle.std.proofs.Common.{slice_index_or, subst, suc, sym, take, ℕ}
+use Rattle.std.proofs.lemmas.List.{append_assoc, get_or-set_other, length-append, length-map, length-set, length-take}
+use Rattle.std.proofs.lemmas.List.{map-append}
 use Rattle.std.proofs.Math.Seq.{take-suc}
 use Rattle.common.specs.declared.memory.OutOfMemory.{OutOfMemory}
 use Rattle.histograms.specs.declared.seen.Seen.{Seen}

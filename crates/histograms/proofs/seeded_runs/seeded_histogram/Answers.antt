@@ -1,4 +1,5 @@
-use Rattle.std.proofs.Common.{◌≡◌, ◌∙◌, ◌+◌, ◌-◌, ◌<◌, ◌++◌, List, None, Ok, IfOk, Option, Result, ap, arith, inl, inr, length, map, slice_index_or, subst, sym, ℕ}
+use Rattle.std.proofs.Common.{◌≡◌, ◌∙◌, ◌+◌, ◌-◌, ◌<◌, ◌++◌, List, None, Ok, IfOk, Option, Result, ap, arith, inl, inr}
+use Rattle.std.proofs.Common.{length, map, slice_index_or, subst, sym, ℕ}
 use Rattle.std.proofs.lemmas.Bool.{cases_lt}
 use Rattle.std.proofs.lemmas.List.{get_or-append-add, get_or_append_left, length-append, length-map}
 use Rattle.std.proofs.Math.ListN.{get_or-map}

@@ -2,9 +2,9 @@ use Rattle.std.proofs.Common.{◌<◌, List, length, refl, subst, suc}
 use Rattle.json.specs.Token.{Token}
 use Rattle.recorder.specs.Names.{name_of}
 use Rattle.recorder.specs.ReadMembers.{AreParts}
-use Rattle.recorder.specs.Pulled.{fresh_tokens, value_tokens, later_tokens}
+use Rattle.recorder.specs.ByTokens.{fresh_tokens, value_tokens, later_tokens}
 use Rattle.recorder.proofs.Somes.{found_is}
-use Rattle.recorder.proofs.Pulled.{Reached, reached_begun, reached_more, reached_all, fresh_adds, adds_shorter}
+use Rattle.recorder.proofs.ByTokens.{Reached, reached_begun, reached_more, reached_all, fresh_adds, adds_shorter}
 use Rattle.recorder.proofs.SpacedTokens.{closes_object, comma_follows}
 use Rattle.recorder.proofs.plain.take_members.Goals as goal
 

@@ -1,9 +1,9 @@
 use Rattle.std.proofs.Common.{refl, subst, List, []}
 use Rattle.json.specs.Token.{Token}
 use Rattle.recorder.specs.ReadMembers.{AreParts, clipped_contents}
-use Rattle.recorder.specs.Pulled.{GivesMembers, fresh_tokens, value_tokens, later_tokens}
+use Rattle.recorder.specs.ByTokens.{GivesMembers, fresh_tokens, value_tokens, later_tokens}
 use Rattle.recorder.proofs.Somes.{known, found_is}
-use Rattle.recorder.proofs.Pulled.{gives_object_of}
+use Rattle.recorder.proofs.ByTokens.{gives_object_of}
 use Rattle.recorder.proofs.RecordingMembers.{found_gives}
 use Rattle.recorder.proofs.SpacedTokens.{opens_object}
 use Rattle.recorder.proofs.plain.take_parsed.Goals as goal

@@ -1,6 +1,6 @@
 use Rattle.std.proofs.Common.{suc, ◌∙◌, sym, subst, ℕ, List}
 use Rattle.recorder.specs.Reading.{list_in, value_in}
-use Rattle.recorder.specs.Pulled.{GivesValue, value_tokens, later_tokens}
+use Rattle.recorder.specs.ByTokens.{GivesValue, value_tokens, later_tokens}
 use Rattle.recorder.proofs.Somes.{if_some, some_is}
 use Rattle.recorder.proofs.RecordingMembers.{version_added, cores_added, writes_added, init_added}
 use Rattle.recorder.proofs.plain.ReadMembers.take.Goals as goal

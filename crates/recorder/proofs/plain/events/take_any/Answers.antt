@@ -1,9 +1,9 @@
 use Rattle.std.proofs.Common.{◌∙◌, refl, sym}
 use Rattle.recorder.specs.ReadMembers.{AreFields}
 use Rattle.recorder.specs.Clipped.{clipped_event}
-use Rattle.recorder.specs.Pulled.{fresh_tokens, value_tokens, later_tokens}
+use Rattle.recorder.specs.ByTokens.{fresh_tokens, value_tokens, later_tokens}
 use Rattle.recorder.proofs.Somes.{known}
-use Rattle.recorder.proofs.Pulled.{gives_object}
+use Rattle.recorder.proofs.ByTokens.{gives_object}
 use Rattle.recorder.proofs.EventFields.{members_give}
 use Rattle.recorder.proofs.SpacedTokens.{opens_object}
 use Rattle.recorder.proofs.plain.events.take_any.Goals as goal

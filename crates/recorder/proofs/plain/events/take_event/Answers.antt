@@ -2,7 +2,7 @@ use Rattle.std.proofs.Common.{ap, List, subst, suc}
 use Rattle.json.specs.Token.{Token}
 use Rattle.json.specs.Lex.{punctuate, after_comma}
 use Rattle.recorder.specs.Clipped.{clipped_event}
-use Rattle.recorder.specs.Pulled.{GivesValue, later_tokens}
+use Rattle.recorder.specs.ByTokens.{GivesValue, later_tokens}
 use Rattle.recorder.proofs.UsualEvents.{usual_gives}
 use Rattle.recorder.proofs.plain.events.take_event.Goals as goal
 

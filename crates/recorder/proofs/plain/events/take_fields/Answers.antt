@@ -1,8 +1,8 @@
 use Rattle.std.proofs.Common.{◌<◌, ◌∷◌, [], List, length, refl, subst}
 use Rattle.json.specs.Token.{Token}
 use Rattle.recorder.specs.ReadMembers.{AreFields}
-use Rattle.recorder.specs.Pulled.{fresh_tokens, value_tokens, later_tokens}
-use Rattle.recorder.proofs.Pulled.{Reached, reached_begun, reached_more, reached_all, fresh_adds, adds_shorter}
+use Rattle.recorder.specs.ByTokens.{fresh_tokens, value_tokens, later_tokens}
+use Rattle.recorder.proofs.ByTokens.{Reached, reached_begun, reached_more, reached_all, fresh_adds, adds_shorter}
 use Rattle.recorder.proofs.SpacedTokens.{closes_object, comma_follows}
 use Rattle.recorder.proofs.plain.events.take_fields.Goals as goal
 

@@ -1,7 +1,7 @@
 use Rattle.std.proofs.Common.{ℕ, length}
 use Rattle.recorder.specs.ReadMembers.{AreFields}
-use Rattle.recorder.specs.Pulled.{value_tokens, fresh_tokens}
-use Rattle.recorder.proofs.Pulled.{Reached}
+use Rattle.recorder.specs.ByTokens.{value_tokens, fresh_tokens}
+use Rattle.recorder.proofs.ByTokens.{Reached}
 use Rattle.recorder.proofs.plain.events.take_fields.Given as goal
 
 -- the members so far are those that were read

@@ -1,6 +1,6 @@
 use Rattle.std.proofs.Common.{ℕ, List, suc, length}
-use Rattle.recorder.specs.Pulled.{value_tokens, fresh_tokens}
-use Rattle.recorder.proofs.Pulled.{Came}
+use Rattle.recorder.specs.ByTokens.{value_tokens, fresh_tokens}
+use Rattle.recorder.proofs.ByTokens.{Came}
 use Rattle.recorder.proofs.plain.lists.take_list_in.Given as goal
 
 -- for the items so far stand those that were found

@@ -1,9 +1,9 @@
 use Rattle.std.proofs.Common.{◌<◌, ◌++◌, ◌∷◌, [], List, length, refl, subst, suc}
 use Rattle.json.specs.Token.{Token}
 use Rattle.recorder.specs.Reading.{list_in}
-use Rattle.recorder.specs.Pulled.{fresh_tokens, value_tokens, later_tokens}
+use Rattle.recorder.specs.ByTokens.{fresh_tokens, value_tokens, later_tokens}
 use Rattle.recorder.proofs.Somes.{found_is}
-use Rattle.recorder.proofs.Pulled.{Came, came_empty, came_begun, came_more, came_shorter, came_all}
+use Rattle.recorder.proofs.ByTokens.{Came, came_empty, came_begun, came_more, came_shorter, came_all}
 use Rattle.recorder.proofs.SpacedTokens.{opens_array, closes_empty, closes_array, comma_follows}
 use Rattle.recorder.proofs.plain.lists.take_lists.Goals as goal
 

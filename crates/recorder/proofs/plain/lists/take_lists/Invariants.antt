@@ -1,7 +1,7 @@
 use Rattle.std.proofs.Common.{ℕ, List, suc, map, length}
 use Rattle.recorder.specs.Reading.{list_in}
-use Rattle.recorder.specs.Pulled.{value_tokens, fresh_tokens}
-use Rattle.recorder.proofs.Pulled.{Came}
+use Rattle.recorder.specs.ByTokens.{value_tokens, fresh_tokens}
+use Rattle.recorder.proofs.ByTokens.{Came}
 use Rattle.recorder.proofs.plain.lists.take_lists.Given as goal
 
 -- for the lists so far stand those that were found

@@ -1,7 +1,7 @@
 use Rattle.std.proofs.Common.{◌∷◌, [], refl}
 use Rattle.serde_json.specs.Find.{as_str}
-use Rattle.recorder.specs.Pulled.{value_tokens, later_tokens}
-use Rattle.recorder.proofs.Pulled.{gives_string}
+use Rattle.recorder.specs.ByTokens.{value_tokens, later_tokens}
+use Rattle.recorder.proofs.ByTokens.{gives_string}
 use Rattle.recorder.proofs.SpacedTokens.{string_value}
 use Rattle.recorder.proofs.plain.values.take_kind.Goals as goal
 

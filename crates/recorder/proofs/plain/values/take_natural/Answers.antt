@@ -2,8 +2,8 @@ use Rattle.std.proofs.Common.{arith, decimal, refl}
 use Rattle.serde_json.specs.Data.{unsigned}
 use Rattle.serde_json.proofs.Numbers.{number_of-decimal}
 use Rattle.recorder.specs.Reading.{natural}
-use Rattle.recorder.specs.Pulled.{value_tokens, later_tokens}
-use Rattle.recorder.proofs.Pulled.{gives_number}
+use Rattle.recorder.specs.ByTokens.{value_tokens, later_tokens}
+use Rattle.recorder.proofs.ByTokens.{gives_number}
 use Rattle.recorder.proofs.SpacedTokens.{number_value}
 use Rattle.recorder.proofs.plain.values.take_natural.Goals as goal
 

@@ -1,8 +1,8 @@
 use Rattle.std.proofs.Common.{ap, sym, ◌∙◌, Some, option_map}
 use Rattle.recorder.specs.Reading.{natural}
 use Rattle.recorder.specs.Clipped.{clip, clipped_number}
-use Rattle.recorder.specs.Pulled.{value_tokens, later_tokens}
-use Rattle.recorder.proofs.Pulled.{gives_also}
+use Rattle.recorder.specs.ByTokens.{value_tokens, later_tokens}
+use Rattle.recorder.proofs.ByTokens.{gives_also}
 use Rattle.recorder.proofs.plain.values.take_number.Goals as goal
 
 pub returns : goal.returns

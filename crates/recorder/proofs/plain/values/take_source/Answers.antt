@@ -2,8 +2,8 @@ use Rattle.std.proofs.Common.{◌∙◌, None, Some, ap, refl, subst, List}
 use Rattle.json.specs.Token.{Token}
 use Rattle.json.specs.Lex.{lex, between, punctuate, after_comma}
 use Rattle.recorder.specs.Clipped.{clipped_number}
-use Rattle.recorder.specs.Pulled.{GivesValue, clipped_source, value_tokens, later_tokens}
-use Rattle.recorder.proofs.Pulled.{gives_also, gives_null, source_is_number}
+use Rattle.recorder.specs.ByTokens.{GivesValue, clipped_source, value_tokens, later_tokens}
+use Rattle.recorder.proofs.ByTokens.{gives_also, gives_null, source_is_number}
 use Rattle.recorder.proofs.SpacedTokens.{null_value}
 use Rattle.recorder.proofs.plain.values.take_source.Goals as goal
 

@@ -1,8 +1,8 @@
 use Rattle.std.proofs.Common.{ap, sym, ◌∙◌, option_and_then}
 use Rattle.recorder.specs.Reading.{natural, value_word, value_in}
-use Rattle.recorder.specs.Pulled.{value_tokens, later_tokens}
+use Rattle.recorder.specs.ByTokens.{value_tokens, later_tokens}
 use Rattle.recorder.proofs.Somes.{known}
-use Rattle.recorder.proofs.Pulled.{gives_also}
+use Rattle.recorder.proofs.ByTokens.{gives_also}
 use Rattle.recorder.proofs.plain.values.take_value.Goals as goal
 
 pub returns : goal.returns

@@ -56,44 +56,28 @@ returns-in_default-digit-clause-last c n small is =
     (c.digits.invariant.2 n [] small tt (is ∙ sym (append-nil (decimal n)))) in
     (ap (λ (m : ℕ). Some m) both.0, kept ∙ both.1)
 
-pub returns-in_default-checked_mul-clause-only : goal.returns-in_default-checked_mul-clause-only
-returns-in_default-checked_mul-clause-only c n b more small other is =
+pub returns-in_default-with_digit-clause-only : goal.returns-in_default-with_digit-clause-only
+returns-in_default-with_digit-clause-only c n b more small other is =
     let found = c.in-Some-digit.ensures.found in
     let most = least _ n c.digit-in-digits.new.self (b ∷ more)
     (step c.digits.n c.in-Some-digit.digit n c.digits.self c.digit-in-digits.new.self (b ∷ more) found.0 found.1 other
     (c.digits.invariant.2 n (b ∷ more) small other is)) in
-    absurd (omega (arith, most, small, c.in_default-checked_mul.ensures))
+    absurd (omega (arith, most, small, c.in_default-with_digit.ensures.only refl))
 
-pub returns-in_default-checked_mul-clause-last : goal.returns-in_default-checked_mul-clause-last
-returns-in_default-checked_mul-clause-last c n small is =
+pub returns-in_default-with_digit-clause-last : goal.returns-in_default-with_digit-clause-last
+returns-in_default-with_digit-clause-last c n small is =
     let found = c.in-Some-digit.ensures.found in
     let most = least _ n c.digit-in-digits.new.self []
     (step c.digits.n c.in-Some-digit.digit n c.digits.self c.digit-in-digits.new.self [] found.0 found.1 tt
     (c.digits.invariant.2 n [] small tt (is ∙ sym (append-nil (decimal n))))) in
-    absurd (omega (arith, most, small, c.in_default-checked_mul.ensures))
-
-pub returns-in_default-checked_add-clause-only : goal.returns-in_default-checked_add-clause-only
-returns-in_default-checked_add-clause-only c n b more small other is =
-    let found = c.in-Some-digit.ensures.found in
-    let most = least _ n c.digit-in-digits.new.self (b ∷ more)
-    (step c.digits.n c.in-Some-digit.digit n c.digits.self c.digit-in-digits.new.self (b ∷ more) found.0 found.1 other
-    (c.digits.invariant.2 n (b ∷ more) small other is)) in
-    absurd (omega (arith, most, small, c.in-Some-checked_mul.ensures, c.in_default-checked_add.ensures))
-
-pub returns-in_default-checked_add-clause-last : goal.returns-in_default-checked_add-clause-last
-returns-in_default-checked_add-clause-last c n small is =
-    let found = c.in-Some-digit.ensures.found in
-    let most = least _ n c.digit-in-digits.new.self []
-    (step c.digits.n c.in-Some-digit.digit n c.digits.self c.digit-in-digits.new.self [] found.0 found.1 tt
-    (c.digits.invariant.2 n [] small tt (is ∙ sym (append-nil (decimal n))))) in
-    absurd (omega (arith, most, small, c.in-Some-checked_mul.ensures, c.in_default-checked_add.ensures))
+    absurd (omega (arith, most, small, c.in_default-with_digit.ensures.only refl))
 
 pub digits-preserved : goal.digits-preserved
 digits-preserved c =
     let h = c.digits.invariant in
     let found = c.in-Some-digit.ensures.found in
-    let next : c.in-Some-checked_add.next ≡ c.digits.n * 10 + c.in-Some-digit.digit =
-    omega (arith, c.in-Some-checked_mul.ensures, c.in-Some-checked_add.ensures) in (
+    let next : c.in-Some-with_digit.next ≡ c.digits.n * 10 + c.in-Some-digit.digit =
+    c.in-Some-with_digit.ensures.found in (
       omega (arith, next, h.0),
       h.1 ∙ ap (λ (t : List ℕ). decimal c.digits.n ++ t) found.1
           ∙ digit_more c.digits.n c.in-Some-digit.digit c.digit-in-digits.new.self h.0 (omega (arith, next)) found.0

@@ -17,7 +17,7 @@ use Rattle.serde_json.specs.Read.{number_of, of_json, of_items, of_members, conv
 use Rattle.serde_json.specs.Find.{as_u64}
 use Rattle.recorder.specs.Clipped.{clip, clipped_number}
 use Rattle.recorder.specs.Reading.{each, list_in}
-use Rattle.recorder.specs.Pulled.{GivesValue, Adds, GivesMembers, clipped_source, value_tokens, fresh_tokens}
+use Rattle.recorder.specs.ByTokens.{GivesValue, Adds, GivesMembers, clipped_source, value_tokens, fresh_tokens}
 
 -- ---- a value
 
