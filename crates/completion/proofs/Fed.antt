@@ -1,12 +1,16 @@
 -- Sets of events that are fed among themselves.
 use Rattle.std.proofs.Common.{◌≡◌, ◌≢◌, ◌<◌, ◌==◌, ◌&&◌, inl, inr, ℕ, Bool, true, false, not, Option, Some, None}
-use Rattle.std.proofs.Common.{List, length, arith, refl, sym, ap, subst, ◌∙◌, ◌+◌}
+use Rattle.std.proofs.Common.{List, length, arith, refl, sym, ap, subst, ◌∙◌, ◌+◌, ◌↔◌}
 use Rattle.std.specs.Prelude.{IsTrue}
 use Rattle.std.proofs.lemmas.Bool.{cases_eq, cases_lt}
 use Rattle.std.proofs.lemmas.Bool.Decides.{nat_tests}
 use Rattle.std.proofs.lemmas.List.{get_or_past}
 use Rattle.bitrow.specs.Bits.{is_in}
+use Rattle.bitrow.specs.Rows.{AreNumbers}
 use Rattle.recording.specs.Execution.{event_count}
+use Rattle.recording.specs.Order.{place}
+use Rattle.recording.specs.OrderLaws.{place_in}
+use Rattle.recording.specs.PlaceLaws.{at_place, times_at}
 use Rattle.values.specs.Refused.{events_alone}
 use Rattle.values.specs.Values.{AreAllowed, Values}
 use Rattle.completion.specs.declared.left.Left.{Left}
@@ -24,6 +28,15 @@ row_below row e h = elim (cases_lt e (length row)) [
   | inl here ↦ here
   | inr past ↦ absurd (let no : false ≡ true = sym (get_or_past row e false past) ∙ h in cc)
 ]
+
+-- what stands among the numbers of a row is in it
+pub numbers_same : (row : List Bool) (ks : List ℕ) → AreNumbers row ks → (e : ℕ) → IsMember ks e ↔ IsInRow row e
+numbers_same row ks t e = (
+  λ there.
+      let at = place_in ks e there in
+      ap (λ (z : ℕ). is_in row z) (sym (at_place ks e at)) ∙ t.members (place ks e) at,
+  λ is. let at = t.all e (row_below row e is) is in subst (λ (z : ℕ). IsMember ks z) at.2 (times_at ks at.0 at.1),
+)
 
 -- what is among some events is among more
 among_more : (P Q : ℕ → Type 0) → ((e : ℕ) → P e → Q e) → (s : Option ℕ) → IsAmong P s → IsAmong Q s

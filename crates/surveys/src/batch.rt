@@ -22,6 +22,7 @@ struct Judged {
 pub(crate) struct Batch {
     bytes: Vec<u8>,
     first: usize,
+    recordings: usize,
     judged: Option<Judged>,
 }
 
@@ -37,13 +38,14 @@ impl Model for Batch {
 }
 
 impl Batch {
-    /// Lines that are not judged, the first of which has this number.
-    pub(crate) fn new(bytes: Vec<u8>, first: usize) -> Batch
+    /// Lines that are not judged, with this many recordings, the first of which has this number.
+    pub(crate) fn new(bytes: Vec<u8>, first: usize, recordings: usize) -> Batch
         ensures { result ≡ bytes.items }
     {
         Batch {
             bytes,
             first,
+            recordings,
             judged: None,
         }
     }
@@ -53,6 +55,11 @@ impl Batch {
         ensures { result.now ≡ self.now }
     {
         &self.bytes
+    }
+
+    /// How many recordings its lines were said to be.
+    pub(crate) fn recordings(&self) -> usize {
+        self.recordings
     }
 
     /// Judges the lines by this worker, of which the gate hears, unless memory runs out.
@@ -76,6 +83,7 @@ impl Batch {
         let Batch {
             bytes,
             first: _,
+            recordings: _,
             judged,
         } = self;
         match judged {

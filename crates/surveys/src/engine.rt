@@ -7,11 +7,26 @@ use common::Gate;
 use std::alloc::Global;
 use std::sync::Wait;
 
-/// How many recordings are in a batch at most where each is reported as soon as those before it are judged.
+/// How many recordings lie on the queue at most where each is reported, so that its line is written before the one that
+/// comes so many after it begins.
 const REPORTED_AT_ONCE: usize = 64;
 
+/// How many batches a worker has then at least.
+const BATCHES_OF_WORKER: usize = 4;
+
+/// How many recordings lie on the queue at most.
+pub(crate) fn room_of(each: bool) -> usize {
+    if each { REPORTED_AT_ONCE } else { usize::MAX }
+}
+
+/// How many recordings are in a batch at most, for this many workers.
+pub(crate) fn batch_of(each: bool, workers: usize) -> usize {
+    let batches = BATCHES_OF_WORKER.saturating_mul(workers.max(1));
+    (room_of(each) / batches.min(REPORTED_AT_ONCE)).max(1)
+}
+
 /// What a survey works by: what waits, memory, what the lines are, whether each recording is reported, who hears of
-/// them, and where batches of lines wait for workers.
+/// them, where batches of lines wait for workers, and how many recordings are in a batch at most.
 #[derive(Drop)]
 pub(crate) struct Engine<'a, R, G> {
     pub(crate) rt: &'a R,
@@ -20,18 +35,14 @@ pub(crate) struct Engine<'a, R, G> {
     pub(crate) each: bool,
     pub(crate) gate: &'a G,
     pub(crate) queue: &'a WorkQueue,
+    pub(crate) batch: usize,
 }
 
 impl<R: Wait, G: Gate> Engine<'_, R, G> {
-    /// Puts these lines on the queue, of which those that lie there are the first; false where all slots are used or
+    /// Puts these lines on the queue, of which those that lie there are the first; false where there is no more room or
     /// memory runs out before.
     pub(crate) fn offer(&self, lines: &[u8]) -> bool {
-        let most = if self.each {
-            REPORTED_AT_ONCE
-        } else {
-            usize::MAX
-        };
-        self.queue.offer(self.rt, self.alloc, lines, most)
+        self.queue.offer(self.rt, self.alloc, lines, self.batch)
     }
 
     /// Judges a batch by this worker, and puts it back to where it lay.

@@ -15,18 +15,20 @@ impl<R: Wait, G: Gate> Engine<'_, R, G> {
     ghost use Rattle.surveys.specs.Surveys.{IsLong, is_read_failure, is_write_failure};
     ghost use Rattle.surveys.specs.Tallies.{IsTallied, IsTally};
 
-    /// Counts the lines of the batches with which these bytes begin, in order, until at most this many bytes lie on the
-    /// queue; answers how many bytes those are.
+    /// Offers the lines with which these bytes begin, up to an end, to workers, and counts those of the first batches, in
+    /// order, until at most this many bytes lie on the queue; answers how many bytes those are.
     fn count_batches<W: Sink>(
         &self,
         sink: &mut W,
         counted: &mut Counted,
         bytes: &[u8],
+        end: usize,
         kept: usize,
     ) -> Result<usize, SurveyError>
-        requires { (front : List ℕ) × (start : Option (List ℕ))
+        requires tally { (front : List ℕ) × (start : Option (List ℕ))
             × IsTally self.now.kind self.now.each front counted.old.ledger counted.old.bytes start
             (W.written sink.old) }
+        requires end { end ≤ length bytes.now }
         ensures within { IfOk result (λ n. n ≤ length bytes.now) }
         ensures ok { IfOk result (λ n. IsTallied self.now.kind self.now.each bytes.now (drop n bytes.now)
             counted.old.ledger counted.old.bytes (W.written sink.old)
@@ -40,7 +42,9 @@ impl<R: Wait, G: Gate> Engine<'_, R, G> {
     {
         let mut from = 0;
         'batches: while from < bytes.len() {
-            let Some(batch) = self.collect(kept) else {
+            let is_offered = self.offer(&bytes[from.min(end)..end]);
+            // A batch that is counted leaves room for one that had none.
+            let Some(batch) = self.collect(if is_offered { kept } else { 0 }) else {
                 break;
             };
             let length = self.count_first(sink, counted, &bytes[from..], batch)?;
@@ -75,18 +79,9 @@ impl<R: Wait, G: Gate> Engine<'_, R, G> {
         ensures writes { FailsBy is_write_failure (W.write_failed sink.old) (W.write_failed sink.new) result }
         ensures silent { self.now.each ≢ true → sink.new ≡ sink.old }
     {
-        let mut seen = seen;
-        'rounds: loop {
-            let end = last_end(block, seen);
-            let is_offered = self.offer(&block[..end]);
-            // Batches that are counted leave room for those that had none.
-            let kept = if is_offered { kept } else { 0 };
-            let end = self.count_batches(sink, counted, block, kept)?;
-            keep_rest(block, end);
-            if is_offered || end == 0 {
-                return Ok(());
-            }
-            seen = 0;
-        }
+        let end = last_end(block, seen);
+        let length = self.count_batches(sink, counted, block, end, kept)?;
+        keep_rest(block, length);
+        Ok(())
     }
 }

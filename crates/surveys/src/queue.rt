@@ -85,6 +85,10 @@ struct Slots {
     bytes: usize,
     /// How many recordings were put.
     recordings: usize,
+    /// How many of these were collected.
+    collected: usize,
+    /// How many recordings may lie here.
+    room: usize,
     is_closed: bool,
 }
 
@@ -114,11 +118,20 @@ impl Slots {
         }
     }
 
-    /// Puts a batch with this many recordings; false where all slots are used.
+    /// Whether there is room for this many recordings more.
+    fn has_room(&self, recordings: usize) -> bool {
+        let waiting = self.recordings.wrapping_sub(self.collected);
+        recordings <= self.room.saturating_sub(waiting)
+    }
+
+    /// Puts a batch with this many recordings; false where there is no room for them, or all slots are used.
     fn put(&mut self, bytes: Vec<u8>, recordings: usize) -> bool {
+        if !self.has_room(recordings) {
+            return false;
+        }
         let at = self.next_put;
         let length = bytes.len();
-        let batch = Batch::new(bytes, self.recordings);
+        let batch = Batch::new(bytes, self.recordings, recordings);
         let is_put = match self.slots.get_mut(at) {
             Some(slot) => slot.put(batch),
             None => false,
@@ -155,6 +168,7 @@ impl Slots {
         let batch = self.slots.get_mut(at)?.collect()?;
         self.oldest = self.after(at);
         self.bytes = self.bytes.wrapping_sub(batch.bytes().len());
+        self.collected = self.collected.wrapping_add(batch.recordings());
         Some(batch)
     }
 
@@ -211,8 +225,9 @@ pub(crate) struct WorkQueue {
 }
 
 impl WorkQueue {
-    /// A queue with all its slots free, after which it needs no memory. Fails only if out of memory.
-    pub(crate) fn new(alloc: Global) -> Result<WorkQueue, OutOfMemory> {
+    /// A queue with room for this many recordings and all its slots free, after which it needs no memory. Fails only if
+    /// out of memory.
+    pub(crate) fn new(alloc: Global, room: usize) -> Result<WorkQueue, OutOfMemory> {
         let mut slots = Vec::with_capacity(alloc, SLOTS)?;
         for _ in 0..SLOTS {
             slots.push(Slot::Free)?;
@@ -225,6 +240,8 @@ impl WorkQueue {
                 oldest: 0,
                 bytes: 0,
                 recordings: 0,
+                collected: 0,
+                room,
                 is_closed: false,
             }),
             was_put: Condvar::new(),
@@ -232,7 +249,7 @@ impl WorkQueue {
         })
     }
 
-    /// Puts a batch with this many recordings; false where all slots are used or memory runs out.
+    /// Puts a batch with this many recordings; false where there is no room or memory runs out.
     fn put<R: Wait>(&self, rt: &R, alloc: Global, bytes: &[u8], recordings: usize) -> bool {
         let mut copy = Vec::new(alloc);
         let Ok(()) = copy.extend_from_slice(bytes) else {
@@ -244,7 +261,7 @@ impl WorkQueue {
     }
 
     /// Puts these lines, of which those that lie here are the first, in batches of at most this many recordings; false
-    /// where all slots are used or memory runs out before.
+    /// where there is no more room or memory runs out before.
     pub(crate) fn offer<R: Wait>(&self, rt: &R, alloc: Global, lines: &[u8], most: usize) -> bool {
         let from = self.slots.lock(rt).bytes.min(lines.len());
         let mut rest = &lines[from..];

@@ -12,7 +12,7 @@ ghost use Rattle.surveys.specs.Surveys.{is_write_failure};
 
 use crate::batch::Batch;
 use crate::counting::Counted;
-use crate::engine::Engine;
+use crate::engine::{Engine, batch_of, room_of};
 use crate::error::SurveyError;
 use crate::filling::{BLOCK, CHUNK, fill};
 use crate::kind::LineKind;
@@ -59,7 +59,7 @@ fn count_blocks<T: Wait, R: Source, W: Sink, G: Gate>(
     }
     engine.count_offered(sink, counted, block, seen, 0)?;
     let rest = mem::replace(block, Vec::new(engine.alloc));
-    let mut last = Batch::new(rest, counted.ledger.ledger.total);
+    let mut last = Batch::new(rest, counted.ledger.ledger.total, 1);
     last.judge(engine.alloc, engine.kind, engine.gate, 0);
     engine.count_batch(sink, counted, last)?;
     Ok(())
@@ -151,7 +151,7 @@ pub fn survey<T: Threads + Wait + Sync, R: Source, W: Sink, G: Gate>(
     let Ok(mut chunk) = Vec::from_elem(alloc, 0u8, CHUNK) else {
         return Err(SurveyError::OutOfMemory);
     };
-    let queue = WorkQueue::new(alloc)?;
+    let queue = WorkQueue::new(alloc, room_of(each))?;
     let engine = Engine {
         rt,
         alloc,
@@ -159,6 +159,7 @@ pub fn survey<T: Threads + Wait + Sync, R: Source, W: Sink, G: Gate>(
         each,
         gate,
         queue: &queue,
+        batch: batch_of(each, workers),
     };
     count_by_workers(&engine, source, sink, &mut counted, &mut chunk, workers)?;
     let Counted { ledger, bytes: _ } = counted;

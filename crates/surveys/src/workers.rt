@@ -15,7 +15,7 @@ fn start_workers<'s, E, R: Threads + Wait + Sync, G: Gate>(
     workers: usize,
 ) {
     let (rt, alloc, kind) = (engine.rt, engine.alloc, engine.kind);
-    let (each, gate, queue) = (engine.each, engine.gate, engine.queue);
+    let (each, gate, queue, batch) = (engine.each, engine.gate, engine.queue, engine.batch);
     for worker in 1..workers.min(MAX_WORKERS) {
         let _ = scope.spawn(move || {
             Engine {
@@ -25,6 +25,7 @@ fn start_workers<'s, E, R: Threads + Wait + Sync, G: Gate>(
                 each,
                 gate,
                 queue,
+                batch,
             }
             .work(worker)
         });

@@ -18,7 +18,7 @@ batches-init g c = record {
 
 pub count_first-requires : goal.count_first-requires
 count_first-requires g c =
-    let r = c.requires in
+    let r = c.requires.tally in
     tally_on c.args.self.now.kind c.args.self.now.each c.args.bytes.now (drop c.batches.from c.args.bytes.now) r.0
     c.args.counted.now.ledger c.batches.counted.ledger c.args.counted.now.bytes c.batches.counted.bytes r.1 _ _ r.2
     c.batches.invariant.tallied
