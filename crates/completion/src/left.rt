@@ -1,11 +1,9 @@
 //! What is left of values while events are taken away.
 
-ghost use Rattle.std.specs.Prelude.{◌≡◌, ◌↔◌, ◌<◌, ◌≤◌, ℕ, IfOk, IfSome, length};
+ghost use Rattle.std.specs.Prelude.{◌≡◌, ◌≤◌, IfOk, IfSome, length};
 ghost use Rattle.common.specs.declared.limits.TheConstants.{MAX_EVENTS};
-ghost use Rattle.values.specs.Refused.{events_alone};
-ghost use Rattle.completion.specs.Left.{IsInRow, IsLeft, LeavesFed};
+ghost use Rattle.completion.specs.Left.{IsLeft, LeavesFed};
 ghost use Rattle.completion.specs.Pairs.{IsTable};
-ghost use Rattle.completion.specs.Part.{AreEvents, IsMember};
 
 use crate::dropping::drop_all_unfed;
 use crate::restricting::restricted;
