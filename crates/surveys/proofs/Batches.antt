@@ -49,16 +49,6 @@ more_tallied kind each bytes rest after l m o n k j u v w first then = record {
       (then.grows (front ++ first.more) start (first.grows front start tally));
 }
 
--- one more, of a block of which what comes after it is left
-pub rest_tallied : (kind : LineKind) (each : Bool) (bytes block seen rest : List ℕ) (end : ℕ) (l m o : SurveyLedger)
-    (n k j : ℕ) (u v w : Option (List ℕ)) → seen ≡ block → rest ≡ drop end block
-    → IsTallied kind each bytes block l n u m k v → IsTallied kind each seen (drop end seen) m k v o j w
-    → IsTallied kind each bytes rest l n u o j w
-rest_tallied kind each bytes block seen rest end l m o n k j u v w same is_rest first then =
-    more_tallied kind each bytes block rest l m o n k j u v w first
-    (subst (λ (r : List ℕ). IsTallied kind each block r m k v o j w) (sym is_rest)
-    (subst (λ (b : List ℕ). IsTallied kind each b (drop end b) m k v o j w) same then))
-
 -- from this place on
 pub tallied_from : (kind : LineKind) (each : Bool) (bytes part : List ℕ) (from n : ℕ) (l m o : SurveyLedger)
     (i k j : ℕ) (u v w : Option (List ℕ))
