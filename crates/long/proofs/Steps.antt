@@ -1,8 +1,9 @@
 -- The events that stand right before others.
-use Rattle.std.proofs.Common.{◌≡◌, ◌<◌, ◌≤◌, ◌+◌, ◌-◌, ◌⊎◌, inl, inr, ℕ, Bool, true, false, cond, List}
+use Rattle.std.proofs.Common.{◌≡◌, ◌≢◌, ◌<◌, ◌≤◌, ◌+◌, ◌-◌, ◌⊎◌, inl, inr, ℕ, Bool, true, false, cond, List}
 use Rattle.std.proofs.Common.{Some, None, get_or, length, arith, sym, ap, subst, ◌∙◌}
 use Rattle.std.proofs.lemmas.Bool.{cases_eq}
-use Rattle.recording.specs.Execution.{Execution, event_count, event_at, write_list, Reads, Writes, source_of}
+use Rattle.recording.specs.Execution.{Execution, event_count, event_at, write_list, ProgramOrder, Reads, Writes}
+use Rattle.recording.specs.Execution.{source_of}
 use Rattle.recording.specs.Order.{place}
 use Rattle.recording.specs.OrderLaws.{place_in}
 use Rattle.recording.specs.PlaceLaws.{at_place, times_at, place_at}
@@ -10,7 +11,8 @@ use Rattle.recording.specs.EventLaws.{Writes-event}
 use Rattle.recording.specs.Tso.{IsWellFormed}
 use Rattle.relations.specs.declared.indexed.IndexedEvent.{IndexedEvent}
 use Rattle.relations.specs.Direct.{is_passed, IsFirstNewer, IsNextWrite}
-use Rattle.relations.specs.Forced.{IsNewerFrom}
+use Rattle.relations.specs.declared.reason.Reason.TheVariants.{Wo, Rf, Fr}
+use Rattle.relations.specs.Forced.{Forced, IsNewerFrom}
 use Rattle.relations.specs.Indexed.{IsIndexed}
 use Rattle.long.specs.Steps.{IsLast}
 
@@ -111,6 +113,42 @@ write_before_at x p a d ws hp is list h =
     let at : p.place - 1 ≡ place (write_list x a) d = omega (arith, hp.place a here, next) in
     ap (λ (vs : List ℕ). get_or vs (p.place - 1) 0) list
     ∙ (ap (λ (i : ℕ). get_or (write_list x a) i 0) at ∙ at_place (write_list x a) d inside)
+
+-- the write at the place before that of a write is the one before it
+pub next_write_at : (x : Execution) (p : IndexedEvent) (a : ℕ) (ws : List ℕ) → IsIndexed x p → p.writes ≡ Some a
+    → ws ≡ write_list x a → 0 < p.place → IsNextWrite x (get_or ws (p.place - 1) 0) p.number
+next_write_at x p a ws hp is list from =
+    let here : Writes x p.number a = sym hp.writes ∙ is in
+    let lists = hp.well_formed.write_lists a in
+    let inside = place_in (write_list x a) p.number (omega (arith, lists.once p.number here)) in
+    let low : p.place - 1 < length (write_list x a) = omega (arith, hp.place a here, inside) in
+    let w : ℕ = get_or (write_list x a) (p.place - 1) 0 in
+    let writes : Writes x w a = lists.nothing_else w (times_at (write_list x a) (p.place - 1) low) in
+    let at : place (write_list x a) w ≡ p.place - 1 =
+    place_at (write_list x a) (p.place - 1) low (omega (arith, lists.once w writes)) in
+    subst (λ (vs : List ℕ). IsNextWrite x (get_or vs (p.place - 1) 0) p.number) (sym list)
+    (a, writes, here, omega (arith, hp.place a here, at, from))
+
+-- the write before another in their write list is before it in every memory order
+pub next_write_forced : (x : Execution) → IsWellFormed x → (d e : ℕ) → IsNextWrite x d e → Forced x d e
+next_write_forced x wf d e h = (
+  Wo,
+  (
+    h.0,
+    (omega (arith, h.3), place_in (write_list x h.0) e (omega (arith, (wf.write_lists h.0).once e h.2))),
+  ),
+)
+
+-- the source of a read that is not earlier on its core is before it in every memory order
+pub source_forced : (x : Execution) (s e : ℕ) → source_of x e ≡ Some s → ¬ ProgramOrder x s e → Forced x s e
+source_forced x s e from other = (Rf, (from, other))
+
+-- a read is before the first write that is newer than its source, but for itself and what is earlier on its core
+pub newer_forced : (x : Execution) → IsWellFormed x → (e w : ℕ) → IsFirstNewer x e w → w ≢ e → ¬ ProgramOrder x w e
+    → Forced x e w
+newer_forced x wf e w h other own =
+    let inside = place_in (write_list x h.0) w (omega (arith, (wf.write_lists h.0).once w h.2)) in
+    (Fr, (h.0, h.1, h.2, other, own, (h.3 w inside).1 (omega arith)))
 
 -- and its place is one of the list
 pub place_low : (x : Execution) (p : IndexedEvent) (a : ℕ) (ws : List ℕ) → IsIndexed x p → p.writes ≡ Some a

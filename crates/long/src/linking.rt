@@ -1,8 +1,10 @@
 //! The forced pairs from which all others follow.
 
-ghost use Rattle.std.specs.Prelude.{◌≡◌, ◌≤◌, ◌<◌, ◌*◌, ℕ, Some, Bool, cond, IfOk, MatchOption, length};
-ghost use Rattle.recording.specs.Execution.{Execution, event_count, source_of};
+ghost use Rattle.std.specs.Prelude.{◌≡◌, ◌≤◌, ◌<◌, ◌*◌, ◌↔◌, ◌⊎◌, ℕ, Some, Bool, cond, IfOk, IsTrue, MatchOption};
+ghost use Rattle.std.specs.Prelude.{length};
+ghost use Rattle.recording.specs.Execution.{Execution, event_count, source_of, ProgramOrder};
 ghost use Rattle.relations.specs.Direct.{IsFirstNewer, IsNextWrite};
+ghost use Rattle.relations.specs.Forced.{IsCoreStart};
 ghost use Rattle.long.specs.Chains.{times_kept};
 ghost use Rattle.long.specs.Linked.{IsLinked};
 ghost use Rattle.long.specs.Steps.{IsStep};
@@ -22,7 +24,8 @@ pub(crate) struct Linked {
 /// The source of an event; the event itself where it has none.
 fn source_or_self(places: &Places<'_>, event: EventId) -> EventId
     requires { event < event_count places.now }
-    ensures { (d : ℕ) → source_of places.now event ≡ Some d → result ≡ d }
+    ensures source { (d : ℕ) → source_of places.now event ≡ Some d → result ≡ d }
+    ensures own { (result ≡ event) ⊎ (source_of places.now event ≡ Some result) }
 {
     let placed = places.event(event as usize);
     match placed.source {
@@ -34,7 +37,8 @@ fn source_or_self(places: &Places<'_>, event: EventId) -> EventId
 /// The write before an event in its write list; the event itself where there is none.
 fn write_before(places: &Places<'_>, event: EventId) -> EventId
     requires { event < event_count places.now }
-    ensures { (d : ℕ) → IsNextWrite places.now d event → result ≡ d }
+    ensures before { (d : ℕ) → IsNextWrite places.now d event → result ≡ d }
+    ensures own { (result ≡ event) ⊎ IsNextWrite places.now result event }
 {
     places.sound();
     let placed = places.event(event as usize);
@@ -53,7 +57,7 @@ fn write_before(places: &Places<'_>, event: EventId) -> EventId
 fn first_newer(places: &Places<'_>, event: EventId) -> Option<EventId>
     requires { event < event_count places.now }
     ensures { MatchOption result ((w : ℕ) → ¬ IsFirstNewer places.now event w)
-        (λ w. (v : ℕ) → IsFirstNewer places.now event v → v ≡ w) }
+        (λ w. IsFirstNewer places.now event w × ((v : ℕ) → IsFirstNewer places.now event v → v ≡ w)) }
 {
     places.sound();
     let placed = places.event(event as usize);
@@ -69,6 +73,22 @@ fn first_newer(places: &Places<'_>, event: EventId) -> Option<EventId>
     }
 }
 
+/// Whether an event is after the first one of a core, on that core.
+fn is_after(places: &Places<'_>, start: EventId, event: EventId) -> bool
+    requires order { start ≤ event }
+    requires event { event < event_count places.now }
+    ensures { IsTrue result ↔ ProgramOrder places.now start event }
+{
+    start < event && places.event(start as usize).core == places.event(event as usize).core
+}
+
+/// Whether an event is earlier than another on the core of that one, whose first event this is.
+fn is_earlier(start: EventId, first: EventId, second: EventId) -> bool
+    ensures { (x : Execution) → IsCoreStart x start second → IsTrue result ↔ ProgramOrder x first second }
+{
+    start <= first && first < second
+}
+
 /// An event, or the last one where it is passed over.
 fn last_of(is_passed: bool, last: EventId, event: EventId) -> EventId
     ensures { result ≡ cond is_passed last event }
@@ -77,10 +97,10 @@ fn last_of(is_passed: bool, last: EventId, event: EventId) -> EventId
 }
 
 impl Linked {
-    ghost use Rattle.std.specs.Prelude.{◌≡◌, ◌≤◌, ◌<◌, ◌+◌, ◌^◌, ℕ, true, false, IfOk, OnOk, length};
+    ghost use Rattle.std.specs.Prelude.{◌≡◌, ◌≤◌, ◌<◌, ◌+◌, ◌^◌, ℕ, true, false, IfOk, IsTrue, OnOk, length};
     ghost use Rattle.recording.specs.Execution.{event_count};
     ghost use Rattle.relations.specs.Direct.{IsFirstNewer};
-    ghost use Rattle.relations.specs.Forced.{Forced};
+    ghost use Rattle.relations.specs.Forced.{Forced, IsCoreStart};
     ghost use Rattle.long.specs.Chains.{times_kept, HasPairMore};
     ghost use Rattle.long.specs.Linked.{IsCounted, IsLinked, IsRightBefore, KeepsPairs};
     ghost use Rattle.long.specs.Steps.{IsLast};
@@ -110,13 +130,15 @@ impl Linked {
         Ok(())
     }
 
-    /// Puts a pair, if it is forced.
+    /// Puts a pair, if it is forced: it is where that is known, else it is asked, which looks at both events.
     fn put_forced(
         &mut self,
         places: &Places<'_>,
         first: EventId,
         second: EventId,
+        known: bool,
     ) -> Result<(), OutOfMemory>
+        requires known { IsTrue known → Forced places.now first second }
         requires few { length self.old.pairs.links + 2 < 2 ^ 32 }
         requires linked { IsLinked places.now self.old }
         ensures few { OnOk result (length self.new.pairs.links ≤ length self.old.pairs.links + 1) }
@@ -125,22 +147,24 @@ impl Linked {
         ensures here { OnOk result (Forced places.now first second → 0 < times_kept self.new.pairs first second) }
     {
         places.sound();
-        if places.forces(first, second) {
+        if known || places.forces(first, second) {
             self.put(first, second)?;
         }
         Ok(())
     }
 
-    /// Puts the forced pairs of which an event is the second, but for those of reads that it is newer for. Two events
-    /// are given: the last before it that is no plain load, and no plain store, where there are such.
+    /// Puts the forced pairs of which an event is the second, but for those of reads that it is newer for. Given are the
+    /// first event of its core, and the last before it that is no plain load, and no plain store, where there are such.
     fn put_before(
         &mut self,
         places: &Places<'_>,
         event: EventId,
+        start: EventId,
         nonload: EventId,
         nonstore: EventId,
     ) -> Result<(), OutOfMemory>
         requires event { event < event_count places.now }
+        requires start { IsCoreStart places.now start event }
         requires nonload { (d : ℕ) → IsLast places.now true d event → nonload ≡ d }
         requires nonstore { (d : ℕ) → IsLast places.now false d event → nonstore ≡ d }
         requires few { length self.old.pairs.links + 5 < 2 ^ 32 }
@@ -151,18 +175,27 @@ impl Linked {
         ensures before { OnOk result ((d : ℕ) → IsRightBefore places.now d event → Forced places.now d event
             → 0 < times_kept self.new.pairs d event) }
     {
-        self.put_forced(places, nonload, event)?;
-        self.put_forced(places, nonstore, event)?;
+        places.sound();
+        self.put_forced(places, nonload, event, false)?;
+        self.put_forced(places, nonstore, event, false)?;
         let source = source_or_self(places, event);
-        self.put_forced(places, source, event)?;
+        let is_read_from = source != event && !is_earlier(start, source, event);
+        self.put_forced(places, source, event, is_read_from)?;
         let write = write_before(places, event);
-        self.put_forced(places, write, event)?;
+        self.put_forced(places, write, event, write != event)?;
         Ok(())
     }
 
     /// Puts the pair of an event and the first write that is newer than its source, if there is one and it is forced.
-    fn put_newer(&mut self, places: &Places<'_>, event: EventId) -> Result<(), OutOfMemory>
+    /// The first event of its core is given.
+    fn put_newer(
+        &mut self,
+        places: &Places<'_>,
+        event: EventId,
+        start: EventId,
+    ) -> Result<(), OutOfMemory>
         requires event { event < event_count places.now }
+        requires start { IsCoreStart places.now start event }
         requires few { length self.old.pairs.links + 2 < 2 ^ 32 }
         requires linked { IsLinked places.now self.old }
         ensures few { OnOk result (length self.new.pairs.links ≤ length self.old.pairs.links + 1) }
@@ -171,8 +204,12 @@ impl Linked {
         ensures newer { OnOk result ((w : ℕ) → IsFirstNewer places.now event w → Forced places.now event w
             → 0 < times_kept self.new.pairs event w) }
     {
+        places.sound();
         match first_newer(places, event) {
-            Some(write) => self.put_forced(places, event, write),
+            Some(write) => {
+                let is_from_read = write != event && !is_earlier(start, write, event);
+                self.put_forced(places, event, write, is_from_read)
+            }
             None => Ok(()),
         }
     }
@@ -187,11 +224,15 @@ pub(crate) fn link_all(alloc: Global, places: &Places<'_>) -> Result<Linked, Out
 {
     places.sound();
     let mut linked = Linked::none(alloc, places)?;
+    let mut start = 0;
     let mut nonload = 0;
     let mut nonstore = 0;
     for number in 0..places.len() as EventId {
-        linked.put_before(places, number, nonload, nonstore)?;
-        linked.put_newer(places, number)?;
+        if !is_after(places, start, number) {
+            start = number;
+        }
+        linked.put_before(places, number, start, nonload, nonstore)?;
+        linked.put_newer(places, number, start)?;
         let event = places.event(number as usize);
         nonload = last_of(event.is_load, nonload, number);
         nonstore = last_of(event.is_store, nonstore, number);

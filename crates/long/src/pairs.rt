@@ -27,15 +27,13 @@ impl Pairs {
     ghost use Rattle.std.specs.Prelude.{◌≡◌, ◌≤◌, ◌<◌, ◌+◌, ◌∷◌, ◌^◌, IfOk, OnOk, length};
     ghost use Rattle.long.specs.Chains.{rest_from, seconds, HasNoPair, HasPairMore};
 
-    /// No pair of this many events.
+    /// No pair of this many events, with room for four times as many.
     pub(crate) fn none(alloc: Global, count: usize) -> Result<Pairs, OutOfMemory>
         ensures { IfOk result (HasNoPair count) }
     {
         let heads = vec![in alloc; 0; count]?;
-        Ok(Pairs {
-            heads,
-            links: Vec::new(alloc),
-        })
+        let links = Vec::with_capacity(alloc, count.saturating_mul(4))?;
+        Ok(Pairs { heads, links })
     }
 
     /// Puts a pair.

@@ -12,7 +12,7 @@ returns-then-newer-list c =
     let here : IsFirstNewer x c.args.event (get_or c.write_list-list.result.now p.newer 0) =
     subst (λ (n : ℕ). IsFirstNewer x n (get_or c.write_list-list.result.now p.newer 0)) c.event-placed.ensures.number
     found.0 in
-    λ v h. one_newer x c.sound.ensures.well_formed c.args.event v _ h here
+    (here, λ v h. one_newer x c.sound.ensures.well_formed c.args.event v _ h here)
 
 pub returns-else-newer-list : goal.returns-else-newer-list
 returns-else-newer-list c w h =

@@ -1,6 +1,7 @@
 use Rattle.std.proofs.Common.{◌<◌, inl, inr, ℕ, true, false, arith, sym, subst, ap, ◌∙◌}
 use Rattle.std.proofs.lemmas.Bool.{cases_eq}
-use Rattle.recording.specs.Execution.{event_at}
+use Rattle.recording.specs.Execution.{event_at, event_count}
+use Rattle.relations.proofs.Cores.{core_next, core_so_far, core_start}
 use Rattle.relations.specs.Direct.{is_passed, IsFirstNewer}
 use Rattle.relations.specs.Forced.{Forced}
 use Rattle.relations.specs.ForcedLaws.{forced_within}
@@ -8,6 +9,18 @@ use Rattle.long.specs.Chains.{times_kept}
 use Rattle.long.specs.Linked.{IsRightBefore}
 use Rattle.long.proofs.Steps.{last_next}
 use Rattle.long.proofs.linking.link_all.Goals as goal
+use Rattle.long.proofs.linking.link_all.Goals.{then-not-is_after, else-not-is_after}
+
+pub loop-number-init : goal.loop-number-init
+loop-number-init c = record {
+  few = omega (arith, c.in_ok-linked.ensures.few);
+  linked = c.in_ok-linked.ensures.linked;
+  core = core_start c.args.places.now;
+  nonload = λ d h. absurd (omega (arith, h.0));
+  nonstore = λ d h. absurd (omega (arith, h.0));
+  before = λ d e low. absurd (omega arith);
+  newer = λ e w low. absurd (omega arith);
+}
 
 pub loop-number-preserved : goal.loop-number-preserved
 loop-number-preserved c =
@@ -17,9 +30,17 @@ loop-number-preserved c =
     let more = c.in_ok-put_newer.ensures in
     let was = c.loop-number.invariant in
     let new = c.put_newer.new.self.pairs in
+    let event : n < event_count x = omega (arith, c.loop-number-test.true, c.len-number-end.ensures) in
+    let core =
+    core_next x c.loop-number.start n c.if-not-is_after.start c.is_after.result event c.loop-number.invariant.core
+    c.is_after.ensures (elim c.if-not-is_after.branch [
+      | then-not-is_after w ↦ inl (w.if-not-is_after.true, w.start-is)
+      | else-not-is_after w ↦ inr (w.if-not-is_after.false, w.start-is)
+    ]) in
     record {
       few = omega (arith, more.few, made.few, was.few);
       linked = more.linked;
+      core = core.1;
       nonload = last_next x true n c.loop-number.nonload c.last_of-nonload.result c.event-event.result.now.is_load
           (c.event-event.ensures.place.is_load
           ∙ ap (λ (k : ℕ). is_passed true (event_at x k)) c.event-event.ensures.number)
@@ -72,3 +93,30 @@ returns-clause-enough c = λ d e step.
         ]
       ]
     ]
+
+pub is_after-requires-clause-order : goal.is_after-requires-clause-order
+is_after-requires-clause-order c = c.loop-number.invariant.core.from
+
+pub put_before-requires-clause-start : goal.put_before-requires-clause-start
+put_before-requires-clause-start c =
+    let x = c.args.places.now in
+    let n = c.loop-number.number in
+    let event : n < event_count x = omega (arith, c.loop-number-test.true, c.len-number-end.ensures) in
+    core_so_far x c.if-not-is_after.start n event
+    (core_next x c.loop-number.start n c.if-not-is_after.start c.is_after.result event c.loop-number.invariant.core
+    c.is_after.ensures (elim c.if-not-is_after.branch [
+      | then-not-is_after w ↦ inl (w.if-not-is_after.true, w.start-is)
+      | else-not-is_after w ↦ inr (w.if-not-is_after.false, w.start-is)
+    ]))
+
+pub put_newer-requires-clause-start : goal.put_newer-requires-clause-start
+put_newer-requires-clause-start c =
+    let x = c.args.places.now in
+    let n = c.loop-number.number in
+    let event : n < event_count x = omega (arith, c.loop-number-test.true, c.len-number-end.ensures) in
+    core_so_far x c.if-not-is_after.start n event
+    (core_next x c.loop-number.start n c.if-not-is_after.start c.is_after.result event c.loop-number.invariant.core
+    c.is_after.ensures (elim c.if-not-is_after.branch [
+      | then-not-is_after w ↦ inl (w.if-not-is_after.true, w.start-is)
+      | else-not-is_after w ↦ inr (w.if-not-is_after.false, w.start-is)
+    ]))

@@ -1,6 +1,7 @@
 use Rattle.std.proofs.Common.{◌≡◌, ◌≤◌, ◌<◌, ◌*◌, ℕ, true, false, length}
 use Rattle.relations.specs.Direct.{IsFirstNewer}
 use Rattle.relations.specs.Forced.{Forced}
+use Rattle.relations.proofs.Cores.{IsCoreSoFar}
 use Rattle.long.specs.Chains.{times_kept}
 use Rattle.long.specs.Linked.{IsLinked, IsRightBefore}
 use Rattle.long.specs.Steps.{IsLast}
@@ -10,6 +11,7 @@ abbrev pub invariant-loop-number : goal.invariant-loop-number
 invariant-loop-number l = record {
   few : length l.linked.pairs.links ≤ 5 * l.number;
   linked : IsLinked l.places l.linked;
+  core : IsCoreSoFar l.places l.start l.number;
   nonload : (d : ℕ) → IsLast l.places true d l.number → l.nonload ≡ d;
   nonstore : (d : ℕ) → IsLast l.places false d l.number → l.nonstore ≡ d;
   before : (d e : ℕ) → e < l.number → IsRightBefore l.places d e → Forced l.places d e

@@ -1,7 +1,27 @@
-use Rattle.std.proofs.Common.{◌≡◌, ◌<◌, inl, inr, ℕ, sym, subst}
+use Rattle.std.proofs.Common.{◌≡◌, ◌<◌, ◌∙◌, inl, inr, ℕ, sym, subst}
+use Rattle.std.proofs.lemmas.Bool.{eqb-false, iff_false, not-true}
 use Rattle.relations.specs.Forced.{Forced}
 use Rattle.long.specs.Chains.{times_kept}
+use Rattle.long.proofs.Steps.{next_write_forced, source_forced}
 use Rattle.long.proofs.linking.Linked.put_before.Goals as goal
+use Rattle.long.proofs.linking.Linked.put_before.Goals.{then-source-event, else-source-event}
+
+pub put_forced-requires-3-clause-known : goal.put_forced-requires-3-clause-known
+put_forced-requires-3-clause-known c is = elim c.if-source-event.branch [
+  | then-source-event w ↦ elim c.source_or_self-source.ensures.own [
+    | inl own ↦ absurd (w.if-source-event.true own)
+    | inr from ↦ source_forced c.args.places.now c.source_or_self-source.result c.args.event from
+        (iff_false (w.is_earlier.ensures c.args.places.now c.requires.start) (not-true _ (sym w.is_read_from-is ∙ is)))
+  ]
+  | else-source-event w ↦ absurd (eqb-false _ _ (not-true _ (sym w.is_read_from-is ∙ is)) w.if-source-event.false)
+]
+
+pub put_forced-requires-4-clause-known : goal.put_forced-requires-4-clause-known
+put_forced-requires-4-clause-known c is = elim c.write_before-write.ensures.own [
+  | inl own ↦ absurd (eqb-false _ _ (not-true _ is) own)
+  | inr next ↦ next_write_forced c.args.places.now c.sound.ensures.well_formed c.write_before-write.result c.args.event
+      next
+]
 
 pub returns-clause-before : goal.returns-clause-before
 returns-clause-before c =
@@ -26,9 +46,9 @@ returns-clause-before c =
           | inl source ↦ is c.source_or_self-source.result d
               (λ f. c.in_ok-put_forced-4.ensures.kept c.source_or_self-source.result e
               (c.in_ok-put_forced-3.ensures.here f))
-              (c.source_or_self-source.ensures d source) forced
+              (c.source_or_self-source.ensures.source d source) forced
           | inr next ↦ is c.write_before-write.result d c.in_ok-put_forced-4.ensures.here
-              (c.write_before-write.ensures d next) forced
+              (c.write_before-write.ensures.before d next) forced
         ]
       ]
     ]
