@@ -1,4 +1,5 @@
-//! Judges a long recording as plainly as can be: the least overlook, or the first memory order by Kahn's algorithm and a heap over few forced pairs from
+//! Judges a long recording as plainly as can be, once it has seen that each value read is its source's and each write list has the writes of its
+//! address: the least overlook, or the first memory order by Kahn's algorithm and a heap over few forced pairs from
 //! which all follow, or a cycle, found by walking back along pairs that wait. Prints what `tsotest judge --long` does, but for the pairs of a cycle.
 
 use std::cmp::Reverse;
@@ -7,13 +8,15 @@ use std::io::Write;
 
 const NONE: u32 = u32::MAX;
 
-/// An event: its core, its kind, its address, its source, and its place in the write list of its address.
+/// An event: its core, its kind, its address, its source, the values that it read and wrote, and its place in the write list of its address.
 #[derive(Clone, Copy)]
 struct Event {
     core: u32,
     kind: u8,
     address: u32,
     source: u32,
+    read: u32,
+    written: u32,
     place: u32,
 }
 
@@ -30,6 +33,38 @@ impl Event {
 struct Recording {
     events: Vec<Event>,
     writes: Vec<Vec<u32>>,
+    init: Vec<u32>,
+}
+
+impl Recording {
+    /// Puts the writes at their places, and says whether each is there once, and each value that was read is its source's.
+    fn is_well_formed(&mut self) -> bool {
+        let mut listed = 0;
+        for (address, list) in self.writes.iter().enumerate() {
+            for (place, write) in list.iter().enumerate() {
+                let Some(event) = self.events.get_mut(*write as usize) else {
+                    return false;
+                };
+                if !event.writes() || event.address as usize != address || event.place != NONE {
+                    return false;
+                }
+                event.place = place as u32;
+                listed += 1;
+            }
+        }
+        listed == self.events.iter().filter(|it| it.writes()).count() && self.events.iter().all(|it| self.is_read_right(it))
+    }
+
+    fn is_read_right(&self, event: &Event) -> bool {
+        if !event.reads() {
+            return true;
+        }
+        if event.source == NONE {
+            return event.read == self.init.get(event.address as usize).copied().unwrap_or(0);
+        }
+        let source = self.events.get(event.source as usize);
+        source.is_some_and(|it| it.writes() && it.address == event.address && it.written == event.read)
+    }
 }
 
 struct Reader<'a> {
@@ -57,7 +92,7 @@ impl Reader<'_> {
 
     /// One object of an event, in the layout of `write_recording`.
     fn event(&mut self, core: u32) -> Event {
-        let mut event = Event { core, kind: b'F', address: NONE, source: NONE, place: NONE };
+        let mut event = Event { core, kind: b'F', address: NONE, source: NONE, read: 0, written: 0, place: NONE };
         if self.takes(b"\"a\":") {
             event.address = self.number();
             self.at += 1;
@@ -68,12 +103,25 @@ impl Reader<'_> {
         for key in [b",\"r\":", b",\"s\":", b",\"w\":"] {
             if self.takes(key) {
                 let value = if self.takes(b"null") { NONE } else { self.number() };
-                if key[2] == b's' {
-                    event.source = value;
+                match key[2] {
+                    b'r' => event.read = value,
+                    b's' => event.source = value,
+                    _ => event.written = value,
                 }
             }
         }
         event
+    }
+
+    /// The numbers of a list that has begun, and its end.
+    fn list(&mut self) -> Vec<u32> {
+        let mut list = Vec::new();
+        while self.bytes[self.at] != b']' {
+            list.push(self.number());
+            self.takes(b",");
+        }
+        self.at += 1;
+        list
     }
 
     fn recording(&mut self) -> Recording {
@@ -90,20 +138,18 @@ impl Reader<'_> {
             self.takes(b",");
             core += 1;
         }
+        while !self.takes(b"\"init\":[") {
+            self.at += 1;
+        }
+        let init = self.list();
         while !self.takes(b"\"writes\":[") {
             self.at += 1;
         }
         while self.takes(b"[") {
-            let mut list = Vec::new();
-            while self.bytes[self.at] != b']' {
-                list.push(self.number());
-                self.takes(b",");
-            }
-            self.at += 1;
+            writes.push(self.list());
             self.takes(b",");
-            writes.push(list);
         }
-        Recording { events, writes }
+        Recording { events, writes, init }
     }
 }
 
@@ -174,13 +220,12 @@ fn pairs(recording: &Recording) -> Vec<(u32, u32)> {
 fn main() {
     let bytes = std::fs::read(std::env::args().nth(1).expect("a recording")).expect("a file");
     let mut recording = Reader { bytes: &bytes, at: 0 }.recording();
-    for list in &recording.writes {
-        for (place, write) in list.iter().enumerate() {
-            recording.events[*write as usize].place = place as u32;
-        }
-    }
     let out = std::io::stdout();
     let mut out = std::io::BufWriter::new(out.lock());
+    if !recording.is_well_formed() {
+        writeln!(out, "refused").unwrap();
+        return;
+    }
     if let Some((read, write)) = overlook(&recording) {
         writeln!(out, "overlook: load {read} store {write}").unwrap();
         return;
