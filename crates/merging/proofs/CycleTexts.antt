@@ -1,38 +1,14 @@
 -- The lines of the lengths of cycles, one after another.
-use Rattle.std.proofs.Common.{◌≡◌, ◌∙◌, ◌<◌, ◌≤◌, ◌^◌, ◌+◌, ◌-◌, ◌++◌, ◌∷◌, [], ℕ, zero, suc, List, Option, Some}
-use Rattle.std.proofs.Common.{ap, append_assoc, append-nil, arith, decimal, get_or, inl, inr, length, refl, subst, sym}
-use Rattle.std.proofs.lemmas.List.{get_or_append_left}
-use Rattle.std.proofs.Math.Seq.{get_or-append_seam}
+use Rattle.std.proofs.Common.{◌≡◌, ◌∙◌, ◌⊎◌, ◌<◌, ◌≤◌, ◌^◌, ◌+◌, ◌-◌, ◌++◌, ◌∷◌, [], ℕ, zero, suc, List, ap, append_assoc}
+use Rattle.std.proofs.Common.{append-nil, arith, codes, decimal, drop, get_or, inl, inr, length, refl, set}
+use Rattle.std.proofs.Common.{sym}
+use Rattle.std.proofs.lemmas.Bool.{cases_lt}
+use Rattle.std.proofs.lemmas.Grind.{get_or-set_at}
+use Rattle.std.proofs.lemmas.List.{get_or-set_other}
 use Rattle.ledger.specs.declared.code.TheConstants.{LONG_CYCLE}
-use Rattle.ledger.specs.Counted.{cycle_line, cycle_lines}
-use Rattle.merging.specs.Parts.{Are64Bit, IsLater}
+use Rattle.ledger.specs.Counted.{cycle_line, cycle_lines, length_name}
+use Rattle.merging.specs.Parts.{Are64Bit}
 use Rattle.merging.proofs.LineTexts.{cycle_then}
-
--- the same counts have the same lines
-lines_agree : (a b : List ℕ) (n : ℕ) → ((v : ℕ) → v < n → get_or a v 0 ≡ get_or b v 0)
-    → cycle_lines a n ≡ cycle_lines b n
-unfolding cycle_lines
-lines_agree a b zero same = refl
-lines_agree a b (suc n) same =
-    ap (λ (t : List ℕ). t ++ cycle_line n (get_or a n 0)) (lines_agree a b n (λ v low. same v (omega arith)))
-    ∙ ap (λ (m : ℕ). cycle_lines b n ++ cycle_line n m) (same n (omega arith))
-
--- one count more
-pub lines_push : (xs : List ℕ) (n i : ℕ) → length xs ≡ i
-    → cycle_lines (xs ++ n ∷ []) (i + 1) ≡ cycle_lines xs i ++ cycle_line i n
-unfolding cycle_lines
-lines_push xs n i size =
-    let next : i + 1 ≡ suc i = omega arith in
-    ap (λ (k : ℕ). cycle_lines (xs ++ n ∷ []) k) next
-    ∙ ap (λ (t : List ℕ). t ++ cycle_line i (get_or (xs ++ n ∷ []) i 0))
-    (lines_agree (xs ++ n ∷ []) xs i (λ v low. get_or_append_left xs (n ∷ []) 0 v (omega (arith, size))))
-    ∙ ap (λ (m : ℕ). cycle_lines xs i ++ cycle_line i m)
-    (ap (λ (k : ℕ). get_or (xs ++ n ∷ []) k 0) (sym size) ∙ get_or-append_seam xs n [] 0)
-
--- no lines
-pub lines_none : (xs : List ℕ) (t : List ℕ) → t ≡ cycle_lines xs 0 ++ t
-unfolding cycle_lines
-lines_none xs t = refl
 
 -- the lines of n lengths from k on
 unfoldable pub lines_from : List ℕ → ℕ → ℕ → List ℕ
@@ -52,70 +28,127 @@ lines_split counts k (suc n) =
     ∙ ap (λ (m : ℕ). cycle_lines counts m ++ lines_from counts (k + 1) n) (sym next)
     ∙ lines_split counts (k + 1) n ∙ ap (λ (m : ℕ). cycle_lines counts m) all
 
+-- the lines from k on, and what stands after them
+abbrev pub left_from : List ℕ → List ℕ → ℕ → List ℕ
+left_from counts more k = lines_from counts k (LONG_CYCLE + 1 - k) ++ 102 ∷ more
+
 -- all lines
-pub lines_all : (counts more : List ℕ)
-    → cycle_lines counts (LONG_CYCLE + 1) ++ more ≡ lines_from counts 0 (LONG_CYCLE + 1 - 0) ++ more
+pub lines_all : (counts more : List ℕ) → cycle_lines counts (LONG_CYCLE + 1) ++ 102 ∷ more ≡ left_from counts more 0
 unfolding cycle_lines
-lines_all counts more = ap (λ (t : List ℕ). t ++ more) (sym (lines_split counts 0 (LONG_CYCLE + 1)))
+lines_all counts more = ap (λ (t : List ℕ). t ++ 102 ∷ more) (sym (lines_split counts 0 (LONG_CYCLE + 1)))
 
--- none are left
-pub lines_end : (counts more : List ℕ) (k : ℕ) → k ≡ LONG_CYCLE + 1
-    → lines_from counts k (LONG_CYCLE + 1 - k) ++ more ≡ more
-unfolding lines_from
-lines_end counts more k end =
-    let none : LONG_CYCLE + 1 - k ≡ 0 = omega (arith, end) in
-    ap (λ (n : ℕ). lines_from counts k n ++ more) none
+-- the counts from k on, below n, are 0
+abbrev pub AreZeros : List ℕ → ℕ → ℕ → Type 0
+AreZeros counts k n = (v : ℕ) → k ≤ v → v < n → get_or counts v 0 ≡ 0
 
--- the line of one, and the others
-lines_next : (counts more : List ℕ) (k : ℕ) → k < LONG_CYCLE + 1
-    → lines_from counts k (LONG_CYCLE + 1 - k) ++ more
-    ≡ cycle_line k (get_or counts k 0) ++ (lines_from counts (k + 1) (LONG_CYCLE + 1 - (k + 1)) ++ more)
-unfolding lines_from
-lines_next counts more k low =
-    let one : LONG_CYCLE + 1 - k ≡ suc (LONG_CYCLE + 1 - (k + 1)) = omega (arith, low) in
-    ap (λ (n : ℕ). lines_from counts k n ++ more) one
-    ∙ append_assoc (cycle_line k (get_or counts k 0)) (lines_from counts (k + 1) (LONG_CYCLE + 1 - (k + 1))) more
+-- the items below k are the counts, and the lines of the others are left
+pub record AreRead (counts more items : List ℕ) (k : ℕ) (rest : List ℕ) : Type 0 where
+  pub same : (v : ℕ) → v < k → get_or items v 0 ≡ get_or counts v 0
+  pub left : rest ≡ left_from counts more k
 
--- what stands after the line of a length is later
-lines_later : (counts more : List ℕ) (k j n : ℕ) → k < j → j + n ≤ LONG_CYCLE + 1
-    → IsLater k (lines_from counts j n ++ 102 ∷ more)
+-- a line stands next: that of the next length whose count is not 0
+pub record IsNextLine (counts more : List ℕ) (k : ℕ) (text : List ℕ) : Type 0 where
+  pub cycle : ℕ
+  pub above : k ≤ cycle
+  pub within : cycle ≤ LONG_CYCLE
+  pub zeros : AreZeros counts k cycle
+  pub is : text ≡ codes "cycle " ++ (length_name cycle ++ (codes ": " ++ (decimal (get_or counts cycle 0)
+      ++ 10 ∷ left_from counts more (cycle + 1))))
+
+-- so it is, or all counts that are left are 0
+abbrev pub IsNext : List ℕ → List ℕ → ℕ → List ℕ → Type 0
+IsNext counts more k text =
+    ((text ≡ 102 ∷ more) × AreZeros counts k (LONG_CYCLE + 1)) ⊎ IsNextLine counts more k text
+
+-- one count more that is 0
+zeros_more : (counts : List ℕ) (k end : ℕ) → get_or counts k 0 ≡ 0 → AreZeros counts (k + 1) end → AreZeros counts k end
+zeros_more counts k end here zeros v from low = elim (cases_lt k v) [
+  | inl after ↦ zeros v (omega (arith, after)) low
+  | inr not ↦ let at : v ≡ k = omega (arith, from, not) in ap (λ (j : ℕ). get_or counts j 0) at ∙ here
+]
+
+next_is : (counts more : List ℕ) (k n : ℕ) → k + n ≡ LONG_CYCLE + 1
+    → IsNext counts more k (lines_from counts k n ++ 102 ∷ more)
 unfolding lines_from
-lines_later counts more k j zero before within = inl (more, refl)
-lines_later counts more k j (suc n) before within = go (get_or counts j 0)
-    (lines_later counts more k (j + 1) n (omega (arith, before)) (omega (arith, within)))
+next_is counts more k zero all = inl (refl, λ v from low. absurd (omega (arith, from, low, all)))
+next_is counts more k (suc n) all = go (get_or counts k 0) refl (next_is counts more (k + 1) n (omega (arith, all)))
   where
-    go : (m : ℕ) → IsLater k (lines_from counts (j + 1) n ++ 102 ∷ more)
-        → IsLater k ((cycle_line j m ++ lines_from counts (j + 1) n) ++ 102 ∷ more)
-    go zero rest = rest
-    go (suc m) rest = inr (
-      j,
-      32 ∷ (decimal (suc m) ++ 10 ∷ (lines_from counts (j + 1) n ++ 102 ∷ more)),
-      before,
-      omega (arith, within),
-      append_assoc (cycle_line j (suc m)) (lines_from counts (j + 1) n) (102 ∷ more)
-          ∙ cycle_then j (suc m) (lines_from counts (j + 1) n ++ 102 ∷ more) (omega arith),
-    )
+    size : n ≡ LONG_CYCLE + 1 - (k + 1)
+    size = omega (arith, all)
 
--- what is read of the line of a length, where all lines are those of counts
-pub next_count : (counts more rest : List ℕ) (k : ℕ) (r : Option ℕ) (new : List ℕ) → k < LONG_CYCLE + 1
-    → Are64Bit counts → rest ≡ lines_from counts k (LONG_CYCLE + 1 - k) ++ 102 ∷ more
-    → ((n : ℕ) (back : List ℕ) → 0 < n → n < 2 ^ 64 → rest ≡ cycle_line k n ++ back → (r ≡ Some n) × (new ≡ back))
-    → (IsLater k rest → (r ≡ Some 0) × (new ≡ rest))
-    → (r ≡ Some (get_or counts k 0)) × (new ≡ lines_from counts (k + 1) (LONG_CYCLE + 1 - (k + 1)) ++ 102 ∷ more)
-next_count counts more rest k r new low short is here later = go (get_or counts k 0) refl
-  where
-    next : rest ≡ cycle_line k (get_or counts k 0)
-        ++ (lines_from counts (k + 1) (LONG_CYCLE + 1 - (k + 1)) ++ 102 ∷ more)
-    next = is ∙ lines_next counts (102 ∷ more) k low
+    go : (m : ℕ) → get_or counts k 0 ≡ m → IsNext counts more (k + 1) (lines_from counts (k + 1) n ++ 102 ∷ more)
+        → IsNext counts more k ((cycle_line k m ++ lines_from counts (k + 1) n) ++ 102 ∷ more)
+    go zero here (inl none) = inl (none.0, zeros_more counts k (LONG_CYCLE + 1) here none.1)
+    go zero here (inr line) = inr (record {
+      cycle = line.cycle;
+      above = omega (arith, line.above);
+      within = line.within;
+      zeros = zeros_more counts k line.cycle here line.zeros;
+      is = line.is;
+    })
+    go (suc m) here later = inr (record {
+      cycle = k;
+      above = omega arith;
+      within = omega (arith, all);
+      zeros = λ v from low. absurd (omega (arith, from, low));
+      is = append_assoc (cycle_line k (suc m)) (lines_from counts (k + 1) n) (102 ∷ more)
+          ∙ cycle_then k (suc m) (lines_from counts (k + 1) n ++ 102 ∷ more) (omega arith)
+          ∙ ap (λ (j : ℕ). codes "cycle " ++ (length_name k ++ (codes ": " ++ (decimal j
+          ++ 10 ∷ (lines_from counts (k + 1) n ++ 102 ∷ more))))) (sym here)
+          ∙ ap (λ (j : ℕ). codes "cycle " ++ (length_name k ++ (codes ": " ++ (decimal (get_or counts k 0)
+          ++ 10 ∷ (lines_from counts (k + 1) j ++ 102 ∷ more))))) size;
+    })
 
-    go : (m : ℕ) → get_or counts k 0 ≡ m
-        → (r ≡ Some (get_or counts k 0)) × (new ≡ lines_from counts (k + 1) (LONG_CYCLE + 1 - (k + 1)) ++ 102 ∷ more)
-    go zero count =
-        let left : rest ≡ lines_from counts (k + 1) (LONG_CYCLE + 1 - (k + 1)) ++ 102 ∷ more = next
-        ∙ ap (λ (m : ℕ). cycle_line k m
-        ++ (lines_from counts (k + 1) (LONG_CYCLE + 1 - (k + 1)) ++ 102 ∷ more)) count in
-        let read = later (subst (IsLater k) (sym left)
-        (lines_later counts more k (k + 1) (LONG_CYCLE + 1 - (k + 1)) (omega arith) (omega (arith, low)))) in
-        (read.0 ∙ ap (λ (m : ℕ). Some m) (sym count), read.1 ∙ left)
-    go (suc m) count = here (get_or counts k 0)
-        (lines_from counts (k + 1) (LONG_CYCLE + 1 - (k + 1)) ++ 102 ∷ more) (omega (arith, count)) (short k) next
+-- the line of a length was read, and the counts between are 0
+pub record IsLineRead (counts more : List ℕ) (k : ℕ) (after : List ℕ) (read : ℕ × ℕ) : Type 0 where
+  pub above : k ≤ read.0
+  pub within : read.0 ≤ LONG_CYCLE
+  pub zeros : AreZeros counts k read.0
+  pub count : read.1 ≡ get_or counts read.0 0
+  pub left : after ≡ left_from counts more (read.0 + 1)
+
+-- what is read of the line that stands next
+pub line_read : (counts more items rest new after : List ℕ) (k : ℕ) (read : ℕ × ℕ) → Are64Bit counts
+    → k ≤ LONG_CYCLE + 1 → AreRead counts more items k rest → rest ≡ codes "cycle " ++ new
+    → ((n m : ℕ) (back : List ℕ) → n ≤ LONG_CYCLE → m < 2 ^ 64
+    → new ≡ length_name n ++ (codes ": " ++ (decimal m ++ 10 ∷ back)) → (read ≡ (n, m)) × (after ≡ back))
+    → IsLineRead counts more k after read
+line_read counts more items rest new after k read short few a is reads =
+    elim (next_is counts more k (LONG_CYCLE + 1 - k) (omega (arith, few))) [
+      | inl none ↦ let byte : 99 ≡ 102 = ap (λ (t : List ℕ). get_or t 0 0) (sym is ∙ a.left ∙ none.0) in
+          absurd (omega (arith, byte))
+      | inr line ↦
+          let r = reads line.cycle (get_or counts line.cycle 0) (left_from counts more (line.cycle + 1)) line.within
+          (short line.cycle) (ap (λ (t : List ℕ). drop 6 t) (sym is ∙ a.left ∙ line.is)) in
+          let cycle : read.0 ≡ line.cycle = ap (λ p. p.0) r.0 in record {
+            above = omega (arith, line.above, cycle);
+            within = omega (arith, line.within, cycle);
+            zeros = λ v from low. line.zeros v from (omega (arith, low, cycle));
+            count = ap (λ p. p.1) r.0 ∙ ap (λ (k : ℕ). get_or counts k 0) (sym cycle);
+            left = r.1 ∙ ap (λ (k : ℕ). left_from counts more (k + 1)) (sym cycle);
+          }
+    ]
+
+-- where no line stands next, all counts that are left are 0
+pub none_read : (counts more items rest : List ℕ) (k : ℕ) → k ≤ LONG_CYCLE + 1 → AreRead counts more items k rest
+    → ((new : List ℕ) → rest ≡ codes "cycle " ++ new → ⊥)
+    → (rest ≡ 102 ∷ more) × AreZeros counts k (LONG_CYCLE + 1)
+none_read counts more items rest k few a never =
+    elim (next_is counts more k (LONG_CYCLE + 1 - k) (omega (arith, few))) [
+      | inl none ↦ (a.left ∙ none.0, none.1)
+      | inr line ↦ absurd (never (length_name line.cycle ++ (codes ": " ++ (decimal (get_or counts line.cycle 0)
+          ++ 10 ∷ left_from counts more (line.cycle + 1)))) (a.left ∙ line.is))
+    ]
+
+-- one count more
+pub one_more : (counts items : List ℕ) (k n m : ℕ) → n < length items → m ≡ get_or counts n 0 → AreZeros counts k n
+    → ((v : ℕ) → v < k → get_or items v 0 ≡ get_or counts v 0) → ((v : ℕ) → k ≤ v → get_or items v 0 ≡ 0)
+    → (v : ℕ) → v < n + 1 → get_or (set items n m) v 0 ≡ get_or counts v 0
+one_more counts items k n m low here zeros same rest v within = elim (cases_lt v n) [
+  | inl before ↦ get_or-set_other items n v m 0 (λ e. omega (arith, e, before)) ∙ elim (cases_lt v k) [
+    | inl below ↦ same v below
+    | inr above ↦ rest v (omega (arith, above)) ∙ sym (zeros v (omega (arith, above)) before)
+  ]
+  | inr not ↦ let at : v ≡ n = omega (arith, within, not) in
+      get_or-set_at items n v m 0 at low ∙ here ∙ ap (λ (j : ℕ). get_or counts j 0) (sym at)
+]

@@ -1,6 +1,6 @@
 -- Lines, and what stands after them.
 use Rattle.std.proofs.Common.{◌≡◌, ◌∙◌, ◌<◌, ◌≤◌, ◌++◌, ◌∷◌, ℕ, List, Option, Some, ap, append_assoc, get_or, sym}
-use Rattle.std.proofs.Common.{codes, decimal, arith, inl, inr, le-ltb, lt-ltb, nat_eq, nat_lt, ne_eqb, false, refl}
+use Rattle.std.proofs.Common.{codes, decimal, drop, arith, inl, inr, le-ltb, lt-ltb, nat_eq, nat_lt, ne_eqb, false, refl}
 use Rattle.std.proofs.Common.{true}
 use Rattle.std.proofs.lemmas.Bool.{cases_lt, false≢true}
 use Rattle.ledger.specs.declared.code.TheConstants.{LONG_CYCLE}
@@ -34,9 +34,9 @@ pub length_over : (n : ℕ) → LONG_CYCLE ≤ n → length_name n ≡ codes "ov
 length_over n high =
     let test : nat_lt n LONG_CYCLE ≡ false = le-ltb n LONG_CYCLE high in rw test refl
 
--- a text that begins with a length of cycles begins with what stands for all longer ones where it is that
+-- a text that begins with what stands for all longer lengths of cycles has that one
 pub over_is : (n : ℕ) (text more back : List ℕ) → n ≤ LONG_CYCLE → text ≡ length_name n ++ 58 ∷ more
-    → text ≡ codes "over 512" ++ back → LONG_CYCLE ≡ n
+    → text ≡ codes "over 512" ++ back → (LONG_CYCLE ≡ n) × (back ≡ 58 ∷ more)
 over_is n text more back within is over = elim (cases_lt n LONG_CYCLE) [
   | inl low ↦
       let first = first_digit n (58 ∷ more) (omega (arith, low)) in
@@ -44,13 +44,8 @@ over_is n text more back within is over = elim (cases_lt n LONG_CYCLE) [
       is ∙ ap (λ (t : List ℕ). t ++ 58 ∷ more) (length_below n low) ∙ first.3 in
       let byte : 111 ≡ first.0 = ap (λ (t : List ℕ). get_or t 0 0) (sym over ∙ number) in
       absurd (false≢true (ap is_digit byte ∙ first.2))
-  | inr high ↦ omega (arith, within, high)
-]
-
--- else with its number
-pub number_is : (n : ℕ) (text more : List ℕ) → n ≤ LONG_CYCLE → text ≡ length_name n ++ 58 ∷ more
-    → ((back : List ℕ) → text ≡ codes "over 512" ++ back → ⊥) → (n < LONG_CYCLE) × (text ≡ decimal n ++ 58 ∷ more)
-number_is n text more within is never = elim (cases_lt n LONG_CYCLE) [
-  | inl low ↦ (low, is ∙ ap (λ (t : List ℕ). t ++ 58 ∷ more) (length_below n low))
-  | inr high ↦ absurd (never (58 ∷ more) (is ∙ ap (λ (t : List ℕ). t ++ 58 ∷ more) (length_over n high)))
+  | inr high ↦ (
+    omega (arith, within, high),
+    ap (λ (t : List ℕ). drop 8 t) (sym over ∙ is ∙ ap (λ (t : List ℕ). t ++ 58 ∷ more) (length_over n high)),
+  )
 ]

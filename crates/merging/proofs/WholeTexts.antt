@@ -15,8 +15,7 @@ use Rattle.ledger.proofs.RealLemmas.{firsts_fit, fitting_has_codes}
 use Rattle.ledger.specs.Counted.{count_line, cycle_lines, first_line, ledger_text, place_name}
 use Rattle.merging.specs.declared.kind.Kind.{Kind}
 use Rattle.merging.specs.declared.kind.Kind.TheVariants.{Campaign, Survey}
-use Rattle.merging.specs.Parts.{HasSameCounts, Is64BitLedger, Is64BitPlace, count_lines, other_place, place_beside}
-use Rattle.merging.specs.Parts.{tail, place_read}
+use Rattle.merging.specs.Parts.{Is64BitLedger, Is64BitPlace, IsReadOf, other_place, place_beside, place_read, tail}
 use Rattle.merging.specs.TextOf.{HasTextOf, HasUnjudgedOf}
 use Rattle.merging.specs.Texts.{all_name, noun, text_of, unjudged_name}
 use Rattle.merging.proofs.LineTexts.{first_then}
@@ -33,30 +32,38 @@ pub first_begins : (name noun : List ℕ) (first : Option ℕ) (more : List ℕ)
     → first_line name noun first ++ more ≡ 102 ∷ first_back name noun first more
 first_begins name noun first more = first_then name noun first more
 
--- the lines up to that of the first violation
-pub ledger_then : (kind : Kind) (l : Ledger) (more : List ℕ) → length l.cycles.items ≡ LONG_CYCLE + 1
-    → ledger_text (all_name kind) (unjudged_name kind) (noun kind) l ++ more
-    ≡ count_lines kind l.total l.ordered l.unjudged l.overlook (cycle_lines l.cycles.items (LONG_CYCLE + 1)
-    ++ 102 ∷ first_back (codes "violation") (noun kind) l.first more)
-ledger_then kind l more size =
-    six (count_line (all_name kind) l.total) (count_line (codes "ordered") l.ordered)
+-- a text, line by line
+pub text_then : (kind : Kind) (l : Ledger) (more : List ℕ) → length l.cycles.items ≡ LONG_CYCLE + 1
+    → text_of kind l ++ more
+    ≡ count_line (all_name kind) l.total ++ (count_line (codes "ordered") l.ordered
+    ++ (count_line (unjudged_name kind) l.unjudged ++ (count_line (codes "overlook") l.overlook
+    ++ (cycle_lines l.cycles.items (LONG_CYCLE + 1)
+    ++ 102 ∷ first_back (codes "violation") (noun kind) l.first (tail kind l.first_unjudged ++ more)))))
+text_then kind l more size = whole kind
+    ∙ six (count_line (all_name kind) l.total) (count_line (codes "ordered") l.ordered)
     (count_line (unjudged_name kind) l.unjudged) (count_line (codes "overlook") l.overlook)
-    (cycle_lines l.cycles.items (length l.cycles.items)) (first_line (codes "violation") (noun kind) l.first) more
-    ∙ ap (λ (t : List ℕ). count_lines kind l.total l.ordered l.unjudged l.overlook t)
-    (ap (λ (n : ℕ). cycle_lines l.cycles.items n ++ (first_line (codes "violation") (noun kind) l.first ++ more)) size
-    ∙ ap (λ (t : List ℕ). cycle_lines l.cycles.items (LONG_CYCLE + 1) ++ t)
-    (first_begins (codes "violation") (noun kind) l.first more))
+    (cycle_lines l.cycles.items (length l.cycles.items)) (first_line (codes "violation") (noun kind) l.first) rest
+    ∙ ap (λ (n : ℕ). heads (cycle_lines l.cycles.items n
+    ++ (first_line (codes "violation") (noun kind) l.first ++ rest))) size
+    ∙ ap (λ (t : List ℕ). heads (cycle_lines l.cycles.items (LONG_CYCLE + 1) ++ t))
+    (first_begins (codes "violation") (noun kind) l.first rest)
   where
+    rest : List ℕ
+    rest = tail kind l.first_unjudged ++ more
+
+    heads : List ℕ → List ℕ
+    heads t = count_line (all_name kind) l.total ++ (count_line (codes "ordered") l.ordered
+        ++ (count_line (unjudged_name kind) l.unjudged ++ (count_line (codes "overlook") l.overlook ++ t)))
+
     six : (a b c d e f g : List ℕ)
         → (((((a ++ b) ++ c) ++ d) ++ e) ++ f) ++ g ≡ a ++ (b ++ (c ++ (d ++ (e ++ (f ++ g)))))
     six a b c d e f g = simp append_assoc
 
--- a text, and what stands after the line of the first violation
-pub text_then : (kind : Kind) (l : Ledger) (more : List ℕ) → text_of kind l ++ more
-    ≡ ledger_text (all_name kind) (unjudged_name kind) (noun kind) l ++ (tail kind l.first_unjudged ++ more)
-text_then Campaign l more = refl
-text_then Survey l more = append_assoc (ledger_text (all_name Survey) (unjudged_name Survey) (noun Survey) l)
-    (tail Survey l.first_unjudged) more
+    whole : (kind : Kind) → text_of kind l ++ more
+        ≡ ledger_text (all_name kind) (unjudged_name kind) (noun kind) l ++ (tail kind l.first_unjudged ++ more)
+    whole Campaign = refl
+    whole Survey = append_assoc (ledger_text (all_name Survey) (unjudged_name Survey) (noun Survey) l)
+        (tail Survey l.first_unjudged) more
 
 -- a place below a number of 64 bits
 short_place : (count total : ℕ) (o : Option ℕ) → total < 2 ^ 64 → IsFirstOf count total o → Is64BitPlace o
@@ -86,9 +93,9 @@ short_ledger codes l is few =
       first_unjudged = short_place l.unjudged l.total l.first_unjudged total fits.unjudged;
     }
 
--- the same counts add up as well
-sums_again : (l m : Ledger) → HasSameCounts l m → AddsUp m → AddsUp l
-sums_again l m same sums = omega (
+-- what is read adds up as well
+sums_again : (kind : Kind) (l m : Ledger) → IsReadOf kind l m → AddsUp m → AddsUp l
+sums_again kind l m same sums = omega (
   arith,
   same.total,
   same.ordered,
@@ -126,23 +133,22 @@ beside_fits u total ordered violations first sums fits = elim (cases_lt 0 u) [
       rw none (omega (arith, not), apart_none ordered first)
 ]
 
--- a text that some codes have is that of the ledger of some codes, which is read of it
+-- what is read of the text of some codes is the ledger of some codes
 pub real_again : (kind : Kind) (codes : List ℕ) (l m : Ledger) → IsLedger codes m
-    → length l.cycles.items ≡ LONG_CYCLE + 1 → HasSameCounts l m
-    → l.first_unjudged ≡ place_read kind (place_beside l.first l.unjudged) m.first_unjudged → HasCodes l
-real_again Campaign codes l m is size same place =
+    → length l.cycles.items ≡ LONG_CYCLE + 1 → IsReadOf kind l m → HasCodes l
+real_again Campaign codes l m is size same =
     let fits = firsts_fit codes m is in
-    let sums : AddsUp l = sums_again l m same (adds_up codes m is) in
+    let sums : AddsUp l = sums_again Campaign l m same (adds_up codes m is) in
     let counted : violation_count l ≡ violation_count m = omega (arith, same.overlook, ap sum same.cycles) in
     let first : IsFirstOf (violation_count l) l.total l.first =
     rw (counted, same.total, same.first) fits.violation in
     let beside = beside_fits l.unjudged l.total l.ordered (violation_count l) l.first (omega (arith, sums)) first in
     fitting_has_codes l size sums (record {
       violation = first;
-      unjudged = rw place beside.0;
-      apart = rw place beside.1;
+      unjudged = rw same.first_unjudged beside.0;
+      apart = rw same.first_unjudged beside.1;
     })
-real_again Survey codes l m is size same place = record {
+real_again Survey codes l m is size same = record {
   codes = codes;
   is = record {
     total = same.total ∙ is.total;
@@ -152,15 +158,14 @@ real_again Survey codes l m is size same place = record {
     lengths = size;
     cycles = λ n within. ap (λ (xs : List ℕ). get_or xs n 0) same.cycles ∙ is.cycles n within;
     first = same.first ∙ is.first;
-    first_unjudged = place ∙ is.first_unjudged;
+    first_unjudged = same.first_unjudged ∙ is.first_unjudged;
   };
 }
 
 -- and it tells of these codes
 pub tells_again : (kind : Kind) (codes : List ℕ) (l m : Ledger) → IsLedger codes m
-    → length l.cycles.items ≡ LONG_CYCLE + 1 → HasSameCounts l m
-    → l.first_unjudged ≡ place_read kind (place_beside l.first l.unjudged) m.first_unjudged → HasTextOf kind codes l
-tells_again kind codes l m is size same place = record {
+    → length l.cycles.items ≡ LONG_CYCLE + 1 → IsReadOf kind l m → HasTextOf kind codes l
+tells_again kind codes l m is size same = record {
   total = same.total ∙ is.total;
   ordered = same.ordered ∙ is.ordered;
   unjudged = same.unjudged ∙ is.unjudged;
@@ -168,13 +173,20 @@ tells_again kind codes l m is size same place = record {
   lengths = size;
   cycles = λ n within. ap (λ (xs : List ℕ). get_or xs n 0) same.cycles ∙ is.cycles n within;
   first = same.first ∙ is.first;
-  first_unjudged = go kind place;
+  first_unjudged = go kind same.first_unjudged;
 }
   where
     go : (kind : Kind) → l.first_unjudged ≡ place_read kind (place_beside l.first l.unjudged) m.first_unjudged
         → HasUnjudgedOf kind codes l
     go Campaign place = tt
     go Survey place = place ∙ is.first_unjudged
+
+-- so it has the text
+pub same_text : (kind : Kind) (l m : Ledger) → IsReadOf kind l m → text_of kind l ≡ text_of kind m
+same_text Campaign l m same =
+    rw (same.total, same.ordered, same.unjudged, same.overlook, same.cycles, same.first) refl
+same_text Survey l m same =
+    rw (same.total, same.ordered, same.unjudged, same.overlook, same.cycles, same.first, same.first_unjudged) refl
 
 -- no text is empty
 byte_some : (xs : List ℕ) (b : ℕ) → 0 < b → get_or xs 0 0 ≡ b → 0 < length xs

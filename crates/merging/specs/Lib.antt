@@ -1,4 +1,3 @@
-pub mod Digits
 pub mod Texts
 pub mod TextOf
 pub mod Merges

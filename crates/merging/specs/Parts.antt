@@ -1,18 +1,20 @@
--- The parts of a text.
-use Rattle.std.specs.Prelude.{◌≡◌, ◌⊎◌, ◌+◌, ◌++◌, ◌∷◌, ◌<◌, ◌≤◌, ◌^◌, ◌==◌, [], ℕ, List, Option, None, Some, IfSome, ⊤}
-use Rattle.std.specs.Prelude.{codes, if◌then◌else◌, length, slice_index}
+-- What is read of a text.
+use Rattle.std.specs.Prelude.{◌≡◌, ◌+◌, ◌<◌, ◌^◌, ◌==◌, [], ℕ, List, Option, None, Some, IfSome, ⊤, codes, false}
+use Rattle.std.specs.Prelude.{if◌then◌else◌, length, slice_index}
 use Rattle.ledger.specs.declared.code.TheConstants.{LONG_CYCLE}
 use Rattle.ledger.specs.declared.ledger.Ledger.{Ledger}
-use Rattle.ledger.specs.Counted.{count_line, first_line, length_name}
-use Rattle.machine.specs.declared.fault.Fault.{Fault}
+use Rattle.ledger.specs.Counted.{first_line}
 use Rattle.headers.specs.declared.header.Counted.{Counted}
 use Rattle.headers.specs.declared.header.Counted.TheVariants as counted
 use Rattle.headers.specs.declared.header.Setup.{Setup}
-use Rattle.headers.specs.Faults.{fault_name}
-use Rattle.headers.specs.Headers.{option_words}
+use Rattle.texts.specs.Decimals.{is_digit}
 use Rattle.merging.specs.declared.kind.Kind.{Kind}
 use Rattle.merging.specs.declared.kind.Kind.TheVariants.{Campaign, Survey}
-use Rattle.merging.specs.Texts.{all_name, noun, unjudged_name}
+use Rattle.merging.specs.Texts.{noun}
+
+-- a byte that is not from 0 to 9
+abbrev pub IsNoDigit : ℕ → Type 0
+IsNoDigit b = is_digit b ≡ false
 
 -- the numbers have 64 bits
 abbrev pub Are64Bit : List ℕ → Type 0
@@ -21,17 +23,6 @@ Are64Bit counts = (n : ℕ) → slice_index counts n < 2 ^ 64
 -- the place, where there is one, has 64 bits
 abbrev pub Is64BitPlace : Option ℕ → Type 0
 Is64BitPlace place = IfSome place (λ n. n < 2 ^ 64)
-
--- the first four lines, and what stands after them
-abbrev pub count_lines : Kind → ℕ → ℕ → ℕ → ℕ → List ℕ → List ℕ
-count_lines kind n o u v more = count_line (all_name kind) n ++ (count_line (codes "ordered") o
-    ++ (count_line (unjudged_name kind) u ++ (count_line (codes "overlook") v ++ more)))
-
--- the line of a longer cycle than this stands next, or that of the first violation
-abbrev pub IsLater : ℕ → List ℕ → Type 0
-IsLater cycle text = ((more : List ℕ) × (text ≡ 102 ∷ more))
-    ⊎ ((n : ℕ) × (more : List ℕ) × (cycle < n) × (n ≤ LONG_CYCLE)
-    × (text ≡ codes "cycle " ++ (length_name n ++ 58 ∷ more)))
 
 -- a ledger with these counts and these first places has 64 bits for each
 pub record Is64BitLedger (l : Ledger) : Type 0 where
@@ -43,15 +34,6 @@ pub record Is64BitLedger (l : Ledger) : Type 0 where
   pub cycles : Are64Bit l.cycles.items
   pub first : Is64BitPlace l.first
   pub first_unjudged : Is64BitPlace l.first_unjudged
-
--- two ledgers have the same counts and the same first violation
-pub record HasSameCounts (l m : Ledger) : Type 0 where
-  pub total : l.total ≡ m.total
-  pub ordered : l.ordered ≡ m.ordered
-  pub unjudged : l.unjudged ≡ m.unjudged
-  pub overlook : l.overlook ≡ m.overlook
-  pub cycles : l.cycles.items ≡ m.cycles.items
-  pub first : l.first ≡ m.first
 
 -- what stands after the line of the first violation: of a survey the line of the first that is refused
 abbrev pub tail : Kind → Option ℕ → List ℕ
@@ -72,17 +54,15 @@ abbrev pub place_read : Kind → Option ℕ → Option ℕ → Option ℕ
 place_read Campaign other told = other
 place_read Survey other told = told
 
--- the sizes of programs as a header has them, and what stands after them
-abbrev pub sizes_then : ℕ → ℕ → ℕ → List ℕ → List ℕ
-sizes_then cores ops addresses more =
-    option_words (codes "# tsotest trials --cores ") cores ++ (option_words (codes " --ops ") ops
-    ++ (option_words (codes " --addresses ") addresses ++ more))
-
--- the fault, the buffer and the attempts as a header has them, and what stands after the words up to the seed
-abbrev pub machine_then : Fault → ℕ → ℕ → List ℕ → List ℕ
-machine_then fault buffer attempts more =
-    codes " --fault " ++ (fault_name fault ++ (option_words (codes " --buffer ") buffer
-    ++ (option_words (codes " --attempts ") attempts ++ (codes " --seed " ++ more))))
+-- a ledger has the counts and the first places that the text of another one tells
+pub record IsReadOf (kind : Kind) (l m : Ledger) : Type 0 where
+  pub total : l.total ≡ m.total
+  pub ordered : l.ordered ≡ m.ordered
+  pub unjudged : l.unjudged ≡ m.unjudged
+  pub overlook : l.overlook ≡ m.overlook
+  pub cycles : l.cycles.items ≡ m.cycles.items
+  pub first : l.first ≡ m.first
+  pub first_unjudged : l.first_unjudged ≡ place_read kind (place_beside l.first l.unjudged) m.first_unjudged
 
 -- the numbers that campaigns have in common have 64 bits
 pub record Is64BitSetup (s : Setup) : Type 0 where

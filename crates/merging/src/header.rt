@@ -1,125 +1,99 @@
 //! Headers.
 
-ghost use Rattle.std.specs.Prelude.{◌≡◌, ◌<◌, ◌≤◌, ◌^◌, ◌++◌, ◌∷◌, ◌↔◌, ℕ, List, Some, IfSome, IsTrue};
+ghost use Rattle.std.specs.Prelude.{◌≡◌, ◌<◌, ◌≤◌, ◌^◌, ◌++◌, ◌∷◌, ◌↔◌, ℕ, List, Some, IfOk, IfSome, IsTrue};
 ghost use Rattle.headers.specs.Faults.{fault_name};
 ghost use Rattle.headers.specs.Headers.{IsHeader, IsSetup, CanBegin, campaign_words, counted_words, header_line};
 ghost use Rattle.headers.specs.Headers.{option_words};
-ghost use Rattle.merging.specs.Digits.{IsNoDigit};
-ghost use Rattle.merging.specs.Parts.{Is64BitSetup, Is64BitCounted, machine_then, sizes_then};
+ghost use Rattle.merging.specs.Parts.{Is64BitCounted, Is64BitSetup, IsNoDigit};
 
-use crate::words::{number, word};
-use common::{MAX_ADDRESSES, MAX_CAPACITY, MAX_CORES, MAX_EVENTS, MAX_STEPS};
-use headers::{Counted, Header, Setup, count_name, fault_named};
+use crate::words::number;
+use common::{MAX_ADDRESSES, MAX_CAPACITY, MAX_CORES, MAX_EVENTS, MAX_STEPS, OutOfMemory};
+use headers::{Counted, Header, Setup, count_name, fault_name, put_header};
 use machine::Fault;
+use std::alloc::Global;
 use texts::Cursor;
 
-/// How many cores, operations of each, and addresses.
-type Sizes = (usize, usize, usize);
-
-/// Takes the name of an option, with what stands before it, and its number.
-fn option(rest: &mut Cursor<'_>, name: &[u8]) -> Option<usize>
-    ensures found { IfSome result (λ n. rest.old ≡ option_words name.now n ++ rest.new) }
-    ensures only { (n b : ℕ) (more : List ℕ) → n < 2 ^ 64 → IsNoDigit b
-        → rest.old ≡ option_words name.now n ++ b ∷ more → (result ≡ Some n) × (rest.new ≡ b ∷ more) }
+/// Reads the number of the option of this name.
+fn option(rest: &mut Cursor<'_>, name: &[u8]) -> usize
+    ensures { (n b : ℕ) (more : List ℕ) → n < 2 ^ 64 → IsNoDigit b → rest.old ≡ option_words name.now n ++ b ∷ more
+        → (result ≡ n) × (rest.new ≡ b ∷ more) }
 {
-    if !rest.take(name) {
-        return None;
-    }
+    rest.take(name);
     number(rest)
 }
 
-/// Takes the sizes of programs.
-fn sizes(rest: &mut Cursor<'_>) -> Option<Sizes>
-    ensures found { IfSome result (λ s. rest.old ≡ sizes_then s.0 s.1 s.2 rest.new) }
-    ensures only { (c o a b : ℕ) (more : List ℕ) → c < 2 ^ 64 → o < 2 ^ 64 → a < 2 ^ 64 → IsNoDigit b
-        → rest.old ≡ sizes_then c o a (b ∷ more) → (result ≡ Some (c, o, a)) × (rest.new ≡ b ∷ more) }
+/// The fault with whose name a text begins: no two names have the same third byte.
+fn fault_at(text: &[u8]) -> Fault
+    ensures { (f : Fault) (more : List ℕ) → text.now ≡ fault_name f ++ more → result ≡ f }
 {
-    let Some(cores) = option(rest, b"# tsotest trials --cores ") else {
-        return None;
-    };
-    let Some(ops) = option(rest, b" --ops ") else {
-        return None;
-    };
-    let Some(addresses) = option(rest, b" --addresses ") else {
-        return None;
-    };
-    Some((cores, ops, addresses))
-}
-
-/// Takes the name of a fault.
-fn fault(rest: &mut Cursor<'_>) -> Option<Fault>
-    ensures found { IfSome result (λ f. rest.old ≡ fault_name f ++ rest.new) }
-    ensures only { (f : Fault) (more : List ℕ) → rest.old ≡ fault_name f ++ 32 ∷ more
-        → (result ≡ Some f) × (rest.new ≡ 32 ∷ more) }
-{
-    let Some(name) = word(rest) else {
-        return None;
-    };
-    fault_named(name)
-}
-
-/// Takes the fault of machines, the capacity of their buffers, and how many steps a trial attempts, up to the first
-/// seed.
-fn machine(rest: &mut Cursor<'_>) -> Option<(Fault, usize, usize)>
-    ensures found { IfSome result (λ m. rest.old ≡ machine_then m.0 m.1 m.2 rest.new) }
-    ensures only { (f : Fault) (b t : ℕ) (more : List ℕ) → b < 2 ^ 64 → t < 2 ^ 64
-        → rest.old ≡ machine_then f b t more → (result ≡ Some (f, b, t)) × (rest.new ≡ more) }
-{
-    if !rest.take(b" --fault ") {
-        return None;
+    match text.get(2) {
+        Some(b'-') => Fault::NoBypass,
+        Some(b'u') => Fault::YoungestFirst,
+        Some(b'e') => Fault::OpenFence,
+        Some(b'a') => Fault::StaleShare,
+        Some(b'r') => Fault::EarlyRmw,
+        _ => Fault::None,
     }
-    let Some(fault) = fault(rest) else {
-        return None;
-    };
-    let Some(buffer) = option(rest, b" --buffer ") else {
-        return None;
-    };
-    let Some(attempts) = option(rest, b" --attempts ") else {
-        return None;
-    };
-    if !rest.take(b" --seed ") {
-        return None;
-    }
-    Some((fault, buffer, attempts))
 }
 
-/// Takes what campaigns have in common, up to the first seed.
-fn setup(rest: &mut Cursor<'_>) -> Option<Setup>
-    ensures found { IfSome result (λ s. rest.old ≡ campaign_words s ++ rest.new) }
-    ensures only { (s : Setup) (more : List ℕ) → Is64BitSetup s → rest.old ≡ campaign_words s ++ more
-        → (result ≡ Some s) × (rest.new ≡ more) }
+/// Reads a fault by its name.
+fn fault(rest: &mut Cursor<'_>) -> Fault
+    ensures { (f : Fault) (more : List ℕ) → rest.old ≡ fault_name f ++ more → (result ≡ f) × (rest.new ≡ more) }
 {
-    let Some((cores, ops, addresses)) = sizes(rest) else {
-        return None;
-    };
-    let Some((fault, buffer, attempts)) = machine(rest) else {
-        return None;
-    };
-    Some(Setup {
+    let fault = fault_at(rest.rest());
+    rest.take(fault_name(fault));
+    fault
+}
+
+/// Reads what campaigns have in common, up to the first seed.
+fn setup(rest: &mut Cursor<'_>) -> Setup
+    ensures { (s : Setup) (more : List ℕ) → Is64BitSetup s → rest.old ≡ campaign_words s ++ more
+        → (result ≡ s) × (rest.new ≡ more) }
+{
+    let cores = option(rest, b"# tsotest trials --cores ");
+    let ops = option(rest, b" --ops ");
+    let addresses = option(rest, b" --addresses ");
+    rest.take(b" --fault ");
+    let fault = fault(rest);
+    let buffer = option(rest, b" --buffer ");
+    let attempts = option(rest, b" --attempts ");
+    rest.take(b" --seed ");
+    Setup {
         cores,
         ops,
         addresses,
         fault,
         buffer,
         attempts,
-    })
+    }
 }
 
-/// Takes what is counted, up to the first seed or line.
-fn counted(rest: &mut Cursor<'_>) -> Option<Counted>
-    ensures found { IfSome result (λ c. rest.old ≡ counted_words c ++ rest.new) }
-    ensures only { (c : Counted) (more : List ℕ) → Is64BitCounted c → rest.old ≡ counted_words c ++ more
-        → (result ≡ Some c) × (rest.new ≡ more) }
+/// Reads what is counted, up to the first seed or line.
+fn counted(rest: &mut Cursor<'_>) -> Counted
+    ensures { (c : Counted) (more : List ℕ) → Is64BitCounted c → rest.old ≡ counted_words c ++ more
+        → (result ≡ c) × (rest.new ≡ more) }
 {
     if rest.take(b"# tsotest survey --from ") {
-        return Some(Counted::Survey);
+        return Counted::Survey;
     }
     if rest.take(b"# tsotest survey --long --from ") {
-        return Some(Counted::LongSurvey);
+        return Counted::LongSurvey;
     }
-    match setup(rest) {
-        Some(setup) => Some(Counted::Campaign(setup)),
-        None => None,
+    Counted::Campaign(setup(rest))
+}
+
+/// Reads the header with which a text begins, whatever stands between its numbers.
+fn read_header(text: &[u8]) -> Header
+    ensures { (h : Header) (more : List ℕ) → IsHeader h → text.now ≡ header_line h ++ more → result ≡ h }
+{
+    let mut rest = Cursor::new(text);
+    let counted = counted(&mut rest);
+    let first = number(&mut rest) as u64;
+    let count = option(&mut rest, count_name(&counted)) as u64;
+    Header {
+        counted,
+        first,
+        count,
     }
 }
 
@@ -153,32 +127,27 @@ fn can_begin(counted: &Counted, first: u64) -> bool
     }
 }
 
-/// Takes the line of a header.
-pub(crate) fn header(rest: &mut Cursor<'_>) -> Option<Header>
-    ensures found { IfSome result (λ h. IsHeader h × (rest.old ≡ header_line h ++ rest.new)) }
-    ensures only { (h : Header) (more : List ℕ) → IsHeader h → rest.old ≡ header_line h ++ more
-        → (result ≡ Some h) × (rest.new ≡ more) }
+/// Whether there can be such a header.
+fn is_header(header: &Header) -> bool
+    ensures { IsTrue result ↔ IsHeader header.now }
 {
-    let Some(counted) = counted(rest) else {
-        return None;
-    };
-    let Some(first) = number(rest) else {
-        return None;
-    };
-    let Some(count) = option(rest, count_name(&counted)) else {
-        return None;
-    };
-    if !rest.take(b"\n") {
-        return None;
+    header.count > 0 && can_begin(&header.counted, header.first)
+}
+
+/// Takes the line of a header. Fails only if out of memory.
+pub(crate) fn header(rest: &mut Cursor<'_>, alloc: Global) -> Result<Option<Header>, OutOfMemory>
+    ensures found { IfOk result (λ r. IfSome r (λ h. IsHeader h × (rest.old ≡ header_line h ++ rest.new))) }
+    ensures only { IfOk result (λ r. (h : Header) (more : List ℕ) → IsHeader h → rest.old ≡ header_line h ++ more
+        → (r ≡ Some h) × (rest.new ≡ more)) }
+{
+    let header = read_header(rest.rest());
+    if !is_header(&header) {
+        return Ok(None);
     }
-    let first = first as u64;
-    let count = count as u64;
-    if count == 0 || !can_begin(&counted, first) {
-        return None;
+    let mut line = Vec::new(alloc);
+    put_header(&mut line, &header)?;
+    if !rest.take(&line) {
+        return Ok(None);
     }
-    Some(Header {
-        counted,
-        first,
-        count,
-    })
+    Ok(Some(header))
 }

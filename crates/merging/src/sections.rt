@@ -129,7 +129,7 @@ fn next_section<'a>(
 {
     let left = rest.left();
     let refusal = header_refusal(rest);
-    let Some(header) = header(rest) else {
+    let Some(header) = header(rest, alloc)? else {
         return Err(TextError::Refused { refusal, left });
     };
     let text = rest.rest();

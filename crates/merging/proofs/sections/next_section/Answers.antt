@@ -9,13 +9,13 @@ use Rattle.merging.proofs.sections.next_section.Goals as goal
 
 pub returns-in-Err-clause-err : goal.returns-in-Err-clause-err
 returns-in-Err-clause-err c =
-    none_read c.in-Err.error c.args.rest.now c.header.new.rest c.header.result c.in-Some.header c.kind_of.result
-    c.in-Some.is c.header.ensures.only c.kind_of.ensures c.in-Err.ensures.err
+    none_read c.in-Err.error c.args.rest.now c.header.new.rest c.in_ok-header.field-0 c.in-Some.header c.kind_of.result
+    c.in-Some.is c.in_ok-header.ensures.only c.kind_of.ensures c.in-Err.ensures.err
 
 pub returns-then-not-fits-clause-err : goal.returns-then-not-fits-clause-err
 returns-then-not-fits-clause-err c t more s begins =
-    let read = section_read c.args.rest.now c.header.new.rest c.header.result c.in-Some.header t more c.in-Some.is
-    c.header.ensures.only s begins in
+    let read = section_read c.args.rest.now c.header.new.rest c.in_ok-header.field-0 c.in-Some.header t more c.in-Some.is
+    c.in_ok-header.ensures.only s begins in
     let kind : kind_of t.header.counted ≡ c.kind_of.result =
     ap (λ (x : Header). kind_of x.counted) (sym read.0) ∙ sym c.kind_of.ensures in
     let told = (c.in-Ok.ensures.ok.only s.codes more
@@ -36,9 +36,9 @@ invariant_of-result c =
     ∙ text_cut (text_of kind (r.begins).ledger) c.read.new.rest c.header.new.rest
     (c.left-counts.result - c.left.result) (r.begins).text size in
     section_of kind c.in-Some.header text c.header.new.rest c.read.new.rest c.in-Ok.ledger c.kind_of.ensures
-    c.in-Some.ensures.found.0 r own (c.if-not-fits.ensures.0 refl)
+    (rw c.in-Some.is at c.in_ok-header.ensures.found).0 r own (c.if-not-fits.ensures.0 refl)
 
 pub returns-clause-only : goal.returns-clause-only
 returns-clause-only c t more s begins =
-    sym (section_read c.args.rest.now c.header.new.rest c.header.result c.in-Some.header t more c.in-Some.is
-    c.header.ensures.only s begins).0
+    sym (section_read c.args.rest.now c.header.new.rest c.in_ok-header.field-0 c.in-Some.header t more c.in-Some.is
+    c.in_ok-header.ensures.only s begins).0
