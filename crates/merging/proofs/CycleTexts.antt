@@ -30,12 +30,14 @@ lines_split counts k (suc n) =
 
 -- the lines from k on, and what stands after them
 abbrev pub left_from : List ℕ → List ℕ → ℕ → List ℕ
-left_from counts more k = lines_from counts k (LONG_CYCLE + 1 - k) ++ 102 ∷ more
+left_from counts more k = lines_from counts k (LONG_CYCLE + 1 - k) ++ more
 
 -- all lines
-pub lines_all : (counts more : List ℕ) → cycle_lines counts (LONG_CYCLE + 1) ++ 102 ∷ more ≡ left_from counts more 0
+pub lines_all : (counts more : List ℕ) → length counts ≡ LONG_CYCLE + 1
+    → cycle_lines counts (length counts) ++ more ≡ left_from counts more 0
 unfolding cycle_lines
-lines_all counts more = ap (λ (t : List ℕ). t ++ 102 ∷ more) (sym (lines_split counts 0 (LONG_CYCLE + 1)))
+lines_all counts more size = ap (λ (t : List ℕ). t ++ more)
+    (ap (λ (n : ℕ). cycle_lines counts n) size ∙ sym (lines_split counts 0 (LONG_CYCLE + 1)))
 
 -- the counts from k on, below n, are 0
 abbrev pub AreZeros : List ℕ → ℕ → ℕ → Type 0
@@ -58,7 +60,7 @@ pub record IsNextLine (counts more : List ℕ) (k : ℕ) (text : List ℕ) : Typ
 -- so it is, or all counts that are left are 0
 abbrev pub IsNext : List ℕ → List ℕ → ℕ → List ℕ → Type 0
 IsNext counts more k text =
-    ((text ≡ 102 ∷ more) × AreZeros counts k (LONG_CYCLE + 1)) ⊎ IsNextLine counts more k text
+    ((text ≡ more) × AreZeros counts k (LONG_CYCLE + 1)) ⊎ IsNextLine counts more k text
 
 -- one count more that is 0
 zeros_more : (counts : List ℕ) (k end : ℕ) → get_or counts k 0 ≡ 0 → AreZeros counts (k + 1) end → AreZeros counts k end
@@ -68,7 +70,7 @@ zeros_more counts k end here zeros v from low = elim (cases_lt k v) [
 ]
 
 next_is : (counts more : List ℕ) (k n : ℕ) → k + n ≡ LONG_CYCLE + 1
-    → IsNext counts more k (lines_from counts k n ++ 102 ∷ more)
+    → IsNext counts more k (lines_from counts k n ++ more)
 unfolding lines_from
 next_is counts more k zero all = inl (refl, λ v from low. absurd (omega (arith, from, low, all)))
 next_is counts more k (suc n) all = go (get_or counts k 0) refl (next_is counts more (k + 1) n (omega (arith, all)))
@@ -76,8 +78,8 @@ next_is counts more k (suc n) all = go (get_or counts k 0) refl (next_is counts 
     size : n ≡ LONG_CYCLE + 1 - (k + 1)
     size = omega (arith, all)
 
-    go : (m : ℕ) → get_or counts k 0 ≡ m → IsNext counts more (k + 1) (lines_from counts (k + 1) n ++ 102 ∷ more)
-        → IsNext counts more k ((cycle_line k m ++ lines_from counts (k + 1) n) ++ 102 ∷ more)
+    go : (m : ℕ) → get_or counts k 0 ≡ m → IsNext counts more (k + 1) (lines_from counts (k + 1) n ++ more)
+        → IsNext counts more k ((cycle_line k m ++ lines_from counts (k + 1) n) ++ more)
     go zero here (inl none) = inl (none.0, zeros_more counts k (LONG_CYCLE + 1) here none.1)
     go zero here (inr line) = inr (record {
       cycle = line.cycle;
@@ -91,12 +93,12 @@ next_is counts more k (suc n) all = go (get_or counts k 0) refl (next_is counts 
       above = omega arith;
       within = omega (arith, all);
       zeros = λ v from low. absurd (omega (arith, from, low));
-      is = append_assoc (cycle_line k (suc m)) (lines_from counts (k + 1) n) (102 ∷ more)
-          ∙ cycle_then k (suc m) (lines_from counts (k + 1) n ++ 102 ∷ more) (omega arith)
+      is = append_assoc (cycle_line k (suc m)) (lines_from counts (k + 1) n) (more)
+          ∙ cycle_then k (suc m) (lines_from counts (k + 1) n ++ more) (omega arith)
           ∙ ap (λ (j : ℕ). codes "cycle " ++ (length_name k ++ (codes ": " ++ (decimal j
-          ++ 10 ∷ (lines_from counts (k + 1) n ++ 102 ∷ more))))) (sym here)
+          ++ 10 ∷ (lines_from counts (k + 1) n ++ more))))) (sym here)
           ∙ ap (λ (j : ℕ). codes "cycle " ++ (length_name k ++ (codes ": " ++ (decimal (get_or counts k 0)
-          ++ 10 ∷ (lines_from counts (k + 1) j ++ 102 ∷ more))))) size;
+          ++ 10 ∷ (lines_from counts (k + 1) j ++ more))))) size;
     })
 
 -- the line of a length was read, and the counts between are 0
@@ -108,14 +110,14 @@ pub record IsLineRead (counts more : List ℕ) (k : ℕ) (after : List ℕ) (rea
   pub left : after ≡ left_from counts more (read.0 + 1)
 
 -- what is read of the line that stands next
-pub line_read : (counts more items rest new after : List ℕ) (k : ℕ) (read : ℕ × ℕ) → Are64Bit counts
+pub line_read : (counts more items rest new after : List ℕ) (k : ℕ) (read : ℕ × ℕ) → get_or more 0 0 ≡ 102 → Are64Bit counts
     → k ≤ LONG_CYCLE + 1 → AreRead counts more items k rest → rest ≡ codes "cycle " ++ new
     → ((n m : ℕ) (back : List ℕ) → n ≤ LONG_CYCLE → m < 2 ^ 64
     → new ≡ length_name n ++ (codes ": " ++ (decimal m ++ 10 ∷ back)) → (read ≡ (n, m)) × (after ≡ back))
     → IsLineRead counts more k after read
-line_read counts more items rest new after k read short few a is reads =
+line_read counts more items rest new after k read begins short few a is reads =
     elim (next_is counts more k (LONG_CYCLE + 1 - k) (omega (arith, few))) [
-      | inl none ↦ let byte : 99 ≡ 102 = ap (λ (t : List ℕ). get_or t 0 0) (sym is ∙ a.left ∙ none.0) in
+      | inl none ↦ let byte : 99 ≡ 102 = ap (λ (t : List ℕ). get_or t 0 0) (sym is ∙ a.left ∙ none.0) ∙ begins in
           absurd (omega (arith, byte))
       | inr line ↦
           let r = reads line.cycle (get_or counts line.cycle 0) (left_from counts more (line.cycle + 1)) line.within
@@ -132,7 +134,7 @@ line_read counts more items rest new after k read short few a is reads =
 -- where no line stands next, all counts that are left are 0
 pub none_read : (counts more items rest : List ℕ) (k : ℕ) → k ≤ LONG_CYCLE + 1 → AreRead counts more items k rest
     → ((new : List ℕ) → rest ≡ codes "cycle " ++ new → ⊥)
-    → (rest ≡ 102 ∷ more) × AreZeros counts k (LONG_CYCLE + 1)
+    → (rest ≡ more) × AreZeros counts k (LONG_CYCLE + 1)
 none_read counts more items rest k few a never =
     elim (next_is counts more k (LONG_CYCLE + 1 - k) (omega (arith, few))) [
       | inl none ↦ (a.left ∙ none.0, none.1)

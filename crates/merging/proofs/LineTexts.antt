@@ -1,10 +1,10 @@
 -- Lines, and what stands after them.
-use Rattle.std.proofs.Common.{◌≡◌, ◌∙◌, ◌<◌, ◌≤◌, ◌++◌, ◌∷◌, ℕ, List, Option, Some, ap, append_assoc, get_or, sym}
+use Rattle.std.proofs.Common.{◌≡◌, ◌∙◌, ◌<◌, ◌≤◌, ◌++◌, ◌∷◌, ℕ, List, Some, ap, append_assoc, get_or, sym}
 use Rattle.std.proofs.Common.{codes, decimal, drop, arith, inl, inr, le-ltb, lt-ltb, nat_eq, nat_lt, ne_eqb, false, refl}
 use Rattle.std.proofs.Common.{true}
 use Rattle.std.proofs.lemmas.Bool.{cases_lt, false≢true}
 use Rattle.ledger.specs.declared.code.TheConstants.{LONG_CYCLE}
-use Rattle.ledger.specs.Counted.{cycle_line, first_line, length_name, place_name}
+use Rattle.ledger.specs.Counted.{cycle_line, length_name, place_name}
 use Rattle.texts.specs.Decimals.{is_digit}
 use Rattle.texts.proofs.DigitLemmas.{first_digit}
 
@@ -14,11 +14,6 @@ pub cycle_then : (k n : ℕ) (more : List ℕ) → 0 < n
 cycle_then k n more some =
     let fails : nat_eq n 0 ≡ false = ne_eqb n 0 (λ e. omega (arith, e, some)) in
     rw fails (simp append_assoc)
-
--- the line of a first place
-pub first_then : (name noun : List ℕ) (first : Option ℕ) (more : List ℕ) → first_line name noun first ++ more
-    ≡ codes "first " ++ (name ++ (codes ": " ++ (place_name noun first ++ 10 ∷ more)))
-first_then name noun first more = simp append_assoc
 
 -- what is printed of a place
 pub place_then : (noun : List ℕ) (n : ℕ) (more : List ℕ)

@@ -30,7 +30,7 @@ ledger_tells kind codes l is = record {
     go Survey = is.first_unjudged
 
 -- the ledger that has the first place of what has no verdict too
-abbrev whole : List ℕ → Ledger → Ledger
+abbrev pub whole : List ℕ → Ledger → Ledger
 whole codes l = record {
   total = l.total;
   ordered = l.ordered;
@@ -42,7 +42,7 @@ whole codes l = record {
 }
 
 -- is that of the codes of which a ledger tells
-whole_is : (kind : Kind) (codes : List ℕ) (l : Ledger) → HasTextOf kind codes l → IsLedger codes (whole codes l)
+pub whole_is : (kind : Kind) (codes : List ℕ) (l : Ledger) → HasTextOf kind codes l → IsLedger codes (whole codes l)
 whole_is kind codes l t = record {
   total = t.total;
   ordered = t.ordered;

@@ -1,6 +1,6 @@
 -- Whole texts, part by part.
 use Rattle.std.proofs.Common.{◌≡◌, ◌∙◌, ◌<◌, ◌^◌, ◌+◌, ◌++◌, ◌∷◌, [], ℕ, List, Option, None, Some}
-use Rattle.std.proofs.Common.{ap, append_assoc, arith, codes, get_or, inl, inr, length, refl, sum}
+use Rattle.std.proofs.Common.{append_assoc, arith, codes, get_or, inl, inr, length, position, refl}
 use Rattle.std.proofs.Common.{eq-eqb, false, nat_eq, ne_eqb, true}
 use Rattle.std.proofs.lemmas.Bool.{cases_lt}
 use Rattle.std.proofs.lemmas.List.{get_or_past}
@@ -10,51 +10,32 @@ use Rattle.ledger.specs.declared.ledger.Ledger.{Ledger}
 use Rattle.ledger.specs.Counts.{AddsUp, IsLedger}
 use Rattle.ledger.specs.Kinds.{is_ordered, is_unjudged, is_overlook, is_cycle_of}
 use Rattle.ledger.specs.LedgerLaws.{adds_up}
-use Rattle.ledger.specs.Real.{AreApart, HasCodes, IsFirstOf, violation_count}
+use Rattle.ledger.specs.Real.{AreApart, FirstsFit, HasCodes, IsFirstOf, violation_count}
 use Rattle.ledger.proofs.RealLemmas.{firsts_fit, fitting_has_codes}
-use Rattle.ledger.specs.Counted.{count_line, cycle_lines, first_line, ledger_text, place_name}
+use Rattle.ledger.specs.Counted.{count_line, cycle_lines, first_line, ledger_text}
 use Rattle.merging.specs.declared.kind.Kind.{Kind}
 use Rattle.merging.specs.declared.kind.Kind.TheVariants.{Campaign, Survey}
-use Rattle.merging.specs.Parts.{Is64BitLedger, Is64BitPlace, IsReadOf, other_place, place_beside, place_read, tail}
-use Rattle.merging.specs.TextOf.{HasTextOf, HasUnjudgedOf}
+use Rattle.merging.specs.Parts.{Are64Bit, Is64BitPlace, IsReadOf, other_place, place_beside, place_read, tail}
+use Rattle.merging.specs.TextOf.{HasUnjudgedOf}
 use Rattle.merging.specs.Texts.{all_name, noun, text_of, unjudged_name}
-use Rattle.merging.proofs.LineTexts.{first_then}
+use Rattle.merging.proofs.TextOfLemmas.{whole, whole_is}
 
 -- what was found is what was sought
 pub same_some : {A : Type 0} (a b : A) → Some a ≡ Some b → a ≡ b
 same_some a b same = cc
 
--- the line of a first place without its first byte, and what stands after it
-abbrev pub first_back : List ℕ → List ℕ → Option ℕ → List ℕ → List ℕ
-first_back name noun first more = codes "irst " ++ (name ++ (codes ": " ++ (place_name noun first ++ 10 ∷ more)))
-
-pub first_begins : (name noun : List ℕ) (first : Option ℕ) (more : List ℕ)
-    → first_line name noun first ++ more ≡ 102 ∷ first_back name noun first more
-first_begins name noun first more = first_then name noun first more
-
 -- a text, line by line
-pub text_then : (kind : Kind) (l : Ledger) (more : List ℕ) → length l.cycles.items ≡ LONG_CYCLE + 1
-    → text_of kind l ++ more
+pub text_then : (kind : Kind) (l : Ledger) (more : List ℕ) → text_of kind l ++ more
     ≡ count_line (all_name kind) l.total ++ (count_line (codes "ordered") l.ordered
     ++ (count_line (unjudged_name kind) l.unjudged ++ (count_line (codes "overlook") l.overlook
-    ++ (cycle_lines l.cycles.items (LONG_CYCLE + 1)
-    ++ 102 ∷ first_back (codes "violation") (noun kind) l.first (tail kind l.first_unjudged ++ more)))))
-text_then kind l more size = whole kind
+    ++ (cycle_lines l.cycles.items (length l.cycles.items) ++ (first_line (codes "violation") (noun kind) l.first
+    ++ (tail kind l.first_unjudged ++ more))))))
+text_then kind l more = whole kind
     ∙ six (count_line (all_name kind) l.total) (count_line (codes "ordered") l.ordered)
     (count_line (unjudged_name kind) l.unjudged) (count_line (codes "overlook") l.overlook)
-    (cycle_lines l.cycles.items (length l.cycles.items)) (first_line (codes "violation") (noun kind) l.first) rest
-    ∙ ap (λ (n : ℕ). heads (cycle_lines l.cycles.items n
-    ++ (first_line (codes "violation") (noun kind) l.first ++ rest))) size
-    ∙ ap (λ (t : List ℕ). heads (cycle_lines l.cycles.items (LONG_CYCLE + 1) ++ t))
-    (first_begins (codes "violation") (noun kind) l.first rest)
+    (cycle_lines l.cycles.items (length l.cycles.items)) (first_line (codes "violation") (noun kind) l.first)
+    (tail kind l.first_unjudged ++ more)
   where
-    rest : List ℕ
-    rest = tail kind l.first_unjudged ++ more
-
-    heads : List ℕ → List ℕ
-    heads t = count_line (all_name kind) l.total ++ (count_line (codes "ordered") l.ordered
-        ++ (count_line (unjudged_name kind) l.unjudged ++ (count_line (codes "overlook") l.overlook ++ t)))
-
     six : (a b c d e f g : List ℕ)
         → (((((a ++ b) ++ c) ++ d) ++ e) ++ f) ++ g ≡ a ++ (b ++ (c ++ (d ++ (e ++ (f ++ g)))))
     six a b c d e f g = simp append_assoc
@@ -70,7 +51,17 @@ short_place : (count total : ℕ) (o : Option ℕ) → total < 2 ^ 64 → IsFirs
 short_place count total None few fits = tt
 short_place count total (Some i) few fits = omega (arith, few, fits.0, fits.1)
 
--- what few codes have has 64 bits
+-- a ledger with these counts and these first places has 64 bits for each
+pub record Is64BitLedger (l : Ledger) : Type 0 where
+  pub total : l.total < 2 ^ 64
+  pub ordered : l.ordered < 2 ^ 64
+  pub unjudged : l.unjudged < 2 ^ 64
+  pub overlook : l.overlook < 2 ^ 64
+  pub cycles : Are64Bit l.cycles.items
+  pub first : Is64BitPlace l.first
+  pub first_unjudged : Is64BitPlace l.first_unjudged
+
+-- so has that of few codes
 pub short_ledger : (codes : List ℕ) (l : Ledger) → IsLedger codes l → length codes < 2 ^ 64 → Is64BitLedger l
 short_ledger codes l is few =
     let fits = firsts_fit codes l is in
@@ -79,7 +70,6 @@ short_ledger codes l is few =
       ordered = omega (arith, is.ordered, few, count_by-le-length is_ordered codes);
       unjudged = omega (arith, is.unjudged, few, count_by-le-length is_unjudged codes);
       overlook = omega (arith, is.overlook, few, count_by-le-length is_overlook codes);
-      lengths = is.lengths;
       cycles = λ n. elim (cases_lt n (LONG_CYCLE + 1)) [
         | inl low ↦ omega (
           arith,
@@ -92,18 +82,6 @@ short_ledger codes l is few =
       first = short_place (violation_count l) l.total l.first total fits.violation;
       first_unjudged = short_place l.unjudged l.total l.first_unjudged total fits.unjudged;
     }
-
--- what is read adds up as well
-sums_again : (kind : Kind) (l m : Ledger) → IsReadOf kind l m → AddsUp m → AddsUp l
-sums_again kind l m same sums = omega (
-  arith,
-  same.total,
-  same.ordered,
-  same.unjudged,
-  same.overlook,
-  ap sum same.cycles,
-  sums,
-)
 
 -- no place is apart from each
 apart_none : (ordered : ℕ) (first : Option ℕ) → AreApart ordered first None
@@ -134,59 +112,35 @@ beside_fits u total ordered violations first sums fits = elim (cases_lt 0 u) [
 ]
 
 -- what is read of the text of some codes is the ledger of some codes
-pub real_again : (kind : Kind) (codes : List ℕ) (l m : Ledger) → IsLedger codes m
-    → length l.cycles.items ≡ LONG_CYCLE + 1 → IsReadOf kind l m → HasCodes l
-real_again Campaign codes l m is size same =
-    let fits = firsts_fit codes m is in
-    let sums : AddsUp l = sums_again Campaign l m same (adds_up codes m is) in
-    let counted : violation_count l ≡ violation_count m = omega (arith, same.overlook, ap sum same.cycles) in
-    let first : IsFirstOf (violation_count l) l.total l.first =
-    rw (counted, same.total, same.first) fits.violation in
-    let beside = beside_fits l.unjudged l.total l.ordered (violation_count l) l.first (omega (arith, sums)) first in
-    fitting_has_codes l size sums (record {
-      violation = first;
-      unjudged = rw same.first_unjudged beside.0;
-      apart = rw same.first_unjudged beside.1;
-    })
-real_again Survey codes l m is size same = record {
-  codes = codes;
-  is = record {
-    total = same.total ∙ is.total;
-    ordered = same.ordered ∙ is.ordered;
-    unjudged = same.unjudged ∙ is.unjudged;
-    overlook = same.overlook ∙ is.overlook;
-    lengths = size;
-    cycles = λ n within. ap (λ (xs : List ℕ). get_or xs n 0) same.cycles ∙ is.cycles n within;
-    first = same.first ∙ is.first;
-    first_unjudged = same.first_unjudged ∙ is.first_unjudged;
-  };
-}
-
--- and it tells of these codes
-pub tells_again : (kind : Kind) (codes : List ℕ) (l m : Ledger) → IsLedger codes m
-    → length l.cycles.items ≡ LONG_CYCLE + 1 → IsReadOf kind l m → HasTextOf kind codes l
-tells_again kind codes l m is size same = record {
-  total = same.total ∙ is.total;
-  ordered = same.ordered ∙ is.ordered;
-  unjudged = same.unjudged ∙ is.unjudged;
-  overlook = same.overlook ∙ is.overlook;
-  lengths = size;
-  cycles = λ n within. ap (λ (xs : List ℕ). get_or xs n 0) same.cycles ∙ is.cycles n within;
-  first = same.first ∙ is.first;
-  first_unjudged = go kind same.first_unjudged;
-}
+pub real_again : (kind : Kind) (codes : List ℕ) (l : Ledger) → IsReadOf kind codes l → HasCodes l
+real_again kind codes l r = fitting_has_codes l r.tells.lengths sums (record {
+  violation = fits.violation;
+  unjudged = rw r.place (go kind).0;
+  apart = rw r.place (go kind).1;
+})
   where
-    go : (kind : Kind) → l.first_unjudged ≡ place_read kind (place_beside l.first l.unjudged) m.first_unjudged
-        → HasUnjudgedOf kind codes l
-    go Campaign place = tt
-    go Survey place = place ∙ is.first_unjudged
+    is : IsLedger codes (whole codes l)
+    is = whole_is kind codes l r.tells
 
--- so it has the text
-pub same_text : (kind : Kind) (l m : Ledger) → IsReadOf kind l m → text_of kind l ≡ text_of kind m
-same_text Campaign l m same =
-    rw (same.total, same.ordered, same.unjudged, same.overlook, same.cycles, same.first) refl
-same_text Survey l m same =
-    rw (same.total, same.ordered, same.unjudged, same.overlook, same.cycles, same.first, same.first_unjudged) refl
+    sums : AddsUp l
+    sums = adds_up codes (whole codes l) is
+
+    fits : FirstsFit (whole codes l)
+    fits = firsts_fit codes (whole codes l) is
+
+    place : Kind → Option ℕ
+    place k = place_read k (place_beside l.first l.unjudged) (position is_unjudged codes)
+
+    go : (k : Kind) → IsFirstOf l.unjudged l.total (place k) × AreApart l.ordered l.first (place k)
+    go Campaign =
+        beside_fits l.unjudged l.total l.ordered (violation_count l) l.first (omega (arith, sums)) fits.violation
+    go Survey = (fits.unjudged, fits.apart)
+
+-- the first place of what has no verdict, where a text tells it
+pub place_told : (kind : Kind) (codes : List ℕ) (l : Ledger) (other : Option ℕ)
+    → l.first_unjudged ≡ place_read kind other (position is_unjudged codes) → HasUnjudgedOf kind codes l
+place_told Campaign codes l other is = tt
+place_told Survey codes l other is = is
 
 -- no text is empty
 byte_some : (xs : List ℕ) (b : ℕ) → 0 < b → get_or xs 0 0 ≡ b → 0 < length xs

@@ -1,6 +1,7 @@
 //! The lines of the lengths of cycles.
 
 ghost use Rattle.std.specs.Prelude.{◌≡◌, ◌≤◌, ◌<◌, ◌^◌, ◌+◌, ◌++◌, ◌∷◌, ℕ, List, IfOk, codes, decimal, length};
+ghost use Rattle.std.specs.Prelude.{slice_index};
 ghost use Rattle.ledger.specs.declared.code.TheConstants.{LONG_CYCLE};
 ghost use Rattle.ledger.specs.Counted.{cycle_lines, length_name};
 ghost use Rattle.merging.specs.Parts.{Are64Bit};
@@ -29,8 +30,8 @@ fn cycle_count(rest: &mut Cursor<'_>) -> (usize, usize)
 pub(crate) fn cycle_counts(rest: &mut Cursor<'_>, alloc: Global) -> Result<Vec<usize>, OutOfMemory>
     ensures size { IfOk result (λ v. length v.items ≡ LONG_CYCLE + 1) }
     ensures only { IfOk result (λ v. (counts more : List ℕ) → length counts ≡ LONG_CYCLE + 1 → Are64Bit counts
-        → rest.old ≡ cycle_lines counts (LONG_CYCLE + 1) ++ 102 ∷ more
-        → (v.items ≡ counts) × (rest.new ≡ 102 ∷ more)) }
+        → slice_index more 0 ≡ 102 → rest.old ≡ cycle_lines counts (length counts) ++ more
+        → (v.items ≡ counts) × (rest.new ≡ more)) }
 {
     let mut counts = Vec::new(alloc);
     counts.resize(LONG_CYCLE + 1, 0)?;

@@ -4,7 +4,7 @@ ghost use Rattle.std.specs.Prelude.{◌≡◌, ◌<◌, ◌≤◌, ◌^◌, ◌+
 ghost use Rattle.headers.specs.Faults.{fault_name};
 ghost use Rattle.headers.specs.Headers.{IsHeader, IsSetup, CanBegin, campaign_words, counted_words, header_line};
 ghost use Rattle.headers.specs.Headers.{option_words};
-ghost use Rattle.merging.specs.Parts.{Is64BitCounted, Is64BitSetup, IsNoDigit};
+ghost use Rattle.merging.specs.Parts.{IsNoDigit};
 
 use crate::words::number;
 use common::{MAX_ADDRESSES, MAX_CAPACITY, MAX_CORES, MAX_EVENTS, MAX_STEPS, OutOfMemory};
@@ -47,7 +47,7 @@ fn fault(rest: &mut Cursor<'_>) -> Fault
 
 /// Reads what campaigns have in common, up to the first seed.
 fn setup(rest: &mut Cursor<'_>) -> Setup
-    ensures { (s : Setup) (more : List ℕ) → Is64BitSetup s → rest.old ≡ campaign_words s ++ more
+    ensures { (s : Setup) (more : List ℕ) → IsSetup s → rest.old ≡ campaign_words s ++ more
         → (result ≡ s) × (rest.new ≡ more) }
 {
     let cores = option(rest, b"# tsotest trials --cores ");
@@ -70,7 +70,7 @@ fn setup(rest: &mut Cursor<'_>) -> Setup
 
 /// Reads what is counted, up to the first seed or line.
 fn counted(rest: &mut Cursor<'_>) -> Counted
-    ensures { (c : Counted) (more : List ℕ) → Is64BitCounted c → rest.old ≡ counted_words c ++ more
+    ensures { (c : Counted) (first : ℕ) (more : List ℕ) → CanBegin c first → rest.old ≡ counted_words c ++ more
         → (result ≡ c) × (rest.new ≡ more) }
 {
     if rest.take(b"# tsotest survey --from ") {

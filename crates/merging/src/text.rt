@@ -2,10 +2,9 @@
 
 ghost use Rattle.std.specs.Prelude.{◌≡◌, ◌+◌, ◌++◌, ℕ, List, Option, IfErr, IfOk, length};
 ghost use Rattle.ledger.specs.declared.code.TheConstants.{LONG_CYCLE};
-ghost use Rattle.ledger.specs.declared.ledger.Ledger.{Ledger as Book};
 ghost use Rattle.merging.specs.Merges.{IsTextRead, IsNoText};
-ghost use Rattle.merging.specs.Parts.{Is64BitLedger, Is64BitPlace, IsReadOf, place_beside, place_read, tail};
-ghost use Rattle.merging.specs.Texts.{text_of};
+ghost use Rattle.merging.specs.Parts.{Is64BitPlace, IsReadOf, place_beside, place_read, tail};
+ghost use Rattle.merging.specs.Texts.{BeginsWithLedger, text_of};
 
 use crate::cycles::cycle_counts;
 use crate::error::{MergeRefusal, TextError};
@@ -44,8 +43,8 @@ fn unjudged_place(rest: &mut Cursor<'_>, kind: Kind, other: Option<usize>) -> Op
 /// memory.
 fn read_ledger(alloc: Global, kind: Kind, text: &[u8]) -> Result<Ledger, OutOfMemory>
     ensures size { IfOk result (λ l. length l.cycles.items ≡ LONG_CYCLE + 1) }
-    ensures only { IfOk result (λ l. (m : Book) (more : List ℕ) → Is64BitLedger m → text.now ≡ text_of kind m ++ more
-        → IsReadOf kind l m) }
+    ensures only { IfOk result (λ l. (codes more : List ℕ) → BeginsWithLedger kind codes text.now more
+        → IsReadOf kind codes l) }
 {
     let mut rest = Cursor::new(text);
     let total = count(&mut rest, kind.all_name());

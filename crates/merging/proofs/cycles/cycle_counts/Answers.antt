@@ -10,14 +10,14 @@ use Rattle.merging.proofs.cycles.cycle_counts.Goals.{then-cycle-least-via-else-c
 
 pub lines-init : goal.lines-init
 lines-init c =
-    let filled : c.resize.new.self.items ≡ replicate 514 0 =
+    let zeros : c.resize.new.self.items ≡ replicate 514 0 =
     c.in_ok-resize.ensures.items ∙ rw (c.new-counts.ensures.items, c.new-counts.ensures.len) refl in record {
       size = search rules;
       few = omega arith;
-      zeros = λ v from. ap (λ (l : List ℕ). get_or l v 0) filled ∙ get_or_same 514 v 0;
-      only = λ counts more size short is. record {
+      zeros = λ v from. ap (λ (l : List ℕ). get_or l v 0) zeros ∙ get_or_same 514 v 0;
+      only = λ counts more size short begins is. record {
         same = λ v low. absurd (omega (arith, low));
-        left = is ∙ lines_all counts more;
+        left = is ∙ lines_all counts more size;
       };
     }
 
@@ -33,10 +33,10 @@ lines-preserved c =
       few = omega (arith, within);
       zeros = λ v from. get_or-set_other items cycle v count 0 (λ e. omega (arith, e, from))
           ∙ h.zeros v (omega (arith, from, above));
-      only = λ counts more size short is.
-          let a = h.only counts more size short is in
+      only = λ counts more size short begins is.
+          let a = h.only counts more size short begins is in
           let r = line_read counts more items c.lines.rest c.take.new.self c.cycle_count-cycle.new.rest c.lines.least
-          c.cycle_count-cycle.result short h.few a (c.lines-test.ensures.found refl) c.cycle_count-cycle.ensures in
+          c.cycle_count-cycle.result begins short h.few a (c.lines-test.ensures.found refl) c.cycle_count-cycle.ensures in
           record {
             same = one_more counts items c.lines.least cycle count (omega (arith, within, h.size)) r.count r.zeros a.same
                 h.zeros;
@@ -45,14 +45,14 @@ lines-preserved c =
     }
 
 pub returns-clause-only : goal.returns-clause-only
-returns-clause-only c counts more size short is =
+returns-clause-only c counts more size short begins is =
     let h = c.lines.invariant in
     let items : List ℕ = c.lines.counts.items in
-    let a = h.only counts more size short is in
+    let a = h.only counts more size short begins is in
     elim c.lines-test.branch [
       | else-lines-test w ↦
-          let none = none_read counts more items c.lines.rest c.lines.least h.few a (λ new begins. false≢true
-          (w.lines-test.ensures.only new begins).0) in (
+          let none = none_read counts more items c.lines.rest c.lines.least h.few a (λ new line. false≢true
+          (w.lines-test.ensures.only new line).0) in (
             ext_get_or 0 items counts (h.size ∙ sym size) (λ v low. elim (cases_lt v c.lines.least) [
               | inl below ↦ a.same v below
               | inr not ↦ h.zeros v (omega (arith, not)) ∙ sym (none.1 v (omega (arith, not)) (omega (arith, low, h.size)))
@@ -61,7 +61,7 @@ returns-clause-only c counts more size short is =
           )
       | then-lines-test+then-cycle-least w ↦
           let r = line_read counts more items c.lines.rest c.take.new.self w.cycle_count-cycle.new.rest c.lines.least
-          w.cycle_count-cycle.result short h.few a (w.lines-test.ensures.found refl) w.cycle_count-cycle.ensures in
+          w.cycle_count-cycle.result begins short h.few a (w.lines-test.ensures.found refl) w.cycle_count-cycle.ensures in
           absurd (elim w.then-cycle-least.branch [
             | then-cycle-least-via-then-cycle-least v ↦ omega (arith, v.if-cycle-least.true, r.above)
             | then-cycle-least-via-else-cycle-least+then-cycle-gt-LONG_CYCLE v ↦ omega (

@@ -1,4 +1,4 @@
-use Rattle.std.proofs.Common.{◌≡◌, ◌≤◌, ◌+◌, ◌-◌, ◌++◌, ◌∷◌, ℕ, List, get_or, length}
+use Rattle.std.proofs.Common.{◌≡◌, ◌≤◌, ◌+◌, ◌-◌, ◌++◌, ℕ, List, get_or, length}
 use Rattle.ledger.specs.declared.code.TheConstants.{LONG_CYCLE}
 use Rattle.ledger.specs.Counted.{cycle_lines}
 use Rattle.merging.specs.Parts.{Are64Bit}
@@ -11,7 +11,7 @@ invariant-lines l = record {
   few : l.least ≤ LONG_CYCLE + 1;
   zeros : (v : ℕ) → l.least ≤ v → get_or l.counts.items v 0 ≡ 0;
   only : (counts more : List ℕ) → length counts ≡ LONG_CYCLE + 1 → Are64Bit counts
-      → l.fn.rest ≡ cycle_lines counts (LONG_CYCLE + 1) ++ 102 ∷ more
+      → get_or more 0 0 ≡ 102 → l.fn.rest ≡ cycle_lines counts (length counts) ++ more
       → AreRead counts more l.counts.items l.least l.rest;
 }
 

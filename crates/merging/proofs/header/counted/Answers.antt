@@ -4,9 +4,9 @@ use Rattle.headers.specs.declared.header.Counted.TheVariants as counted
 use Rattle.merging.proofs.header.counted.Goals as goal
 
 pub returns : goal.returns
-returns c (counted.Campaign s) more short is =
-    let read = c.setup.ensures s more short (c.if-take-2.ensures.kept refl ∙ c.if-take.ensures.kept refl ∙ is) in
+returns c (counted.Campaign s) first more begins is =
+    let read = c.setup.ensures s more begins (c.if-take-2.ensures.kept refl ∙ c.if-take.ensures.kept refl ∙ is) in
     (ap (λ k. counted.Campaign k) read.0, read.1)
-returns c counted.Survey more short is = absurd (false≢true (c.if-take.ensures.only more is).0)
-returns c counted.LongSurvey more short is =
+returns c counted.Survey first more begins is = absurd (false≢true (c.if-take.ensures.only more is).0)
+returns c counted.LongSurvey first more begins is =
     absurd (false≢true (c.if-take-2.ensures.only more (c.if-take.ensures.kept refl ∙ is)).0)

@@ -1,33 +1,36 @@
-use Rattle.std.proofs.Common.{◌≡◌, ◌++◌, ◌∙◌, ap, codes, sym, ℕ, List, Option}
+use Rattle.std.proofs.Common.{◌≡◌, ◌++◌, ◌∙◌, ap, codes, get_or, refl, sym, ℕ, List, Option}
 use Rattle.ledger.specs.Counted.{count_line}
 use Rattle.merging.specs.Parts.{place_read, tail}
-use Rattle.merging.specs.Texts.{noun}
-use Rattle.merging.proofs.WholeTexts.{first_back, first_begins, text_then}
+use Rattle.merging.proofs.WholeTexts.{place_told, short_ledger, text_then}
 use Rattle.merging.proofs.text.read_ledger.Goals as goal
 
 pub returns-clause-only : goal.returns-clause-only
-returns-clause-only c m more short is =
+returns-clause-only c codes more b =
     let kind = c.args.kind in
-    let back = tail kind m.first_unjudged ++ more in
+    let m = b.ledger in
+    let short = short_ledger codes m b.is b.few in
     let total = c.count-total.ensures m.total _ short.total
-    (named _ _ m.total _ _ c.all_name.ensures (c.new-rest.ensures ∙ is ∙ text_then kind m more short.lengths)) in
+    (named _ _ m.total _ _ c.all_name.ensures (c.new-rest.ensures ∙ b.text ∙ text_then kind m more)) in
     let ordered = c.count-ordered.ensures m.ordered _ short.ordered total.1 in
     let unjudged = c.count-unjudged.ensures m.unjudged _ short.unjudged
     (named _ _ m.unjudged _ _ c.unjudged_name.ensures ordered.1) in
     let overlook = c.count-overlook.ensures m.overlook _ short.overlook unjudged.1 in
-    let cycles = c.in_ok-cycles.ensures.only m.cycles.items (first_back (codes "violation") (noun kind) m.first back)
-    short.lengths short.cycles overlook.1 in
-    let first = c.first-first.ensures m.first back short.first
-    (cycles.1 ∙ sym (first_begins (codes "violation") (noun kind) m.first back)) in
-    let place = c.unjudged_place-first_unjudged.ensures m.first_unjudged more short.first_unjudged first.1 in record {
-      total = total.0;
-      ordered = ordered.0;
-      unjudged = unjudged.0;
-      overlook = overlook.0;
-      cycles = cycles.0;
-      first = first.0;
-      first_unjudged = place
-          ∙ ap (λ (o : Option ℕ). place_read kind o m.first_unjudged) c.place_beside.ensures;
+    let cycles = c.in_ok-cycles.ensures.only m.cycles.items _ b.is.lengths short.cycles refl overlook.1 in
+    let first = c.first-first.ensures m.first (tail kind m.first_unjudged ++ more) short.first cycles.1 in
+    let read = c.unjudged_place-first_unjudged.ensures m.first_unjudged more short.first_unjudged first.1
+    ∙ ap (λ (o : Option ℕ). place_read kind o m.first_unjudged) c.place_beside.ensures
+    ∙ ap (λ (o : Option ℕ). place_read kind _ o) b.is.first_unjudged in record {
+      tells = record {
+        total = total.0 ∙ b.is.total;
+        ordered = ordered.0 ∙ b.is.ordered;
+        unjudged = unjudged.0 ∙ b.is.unjudged;
+        overlook = overlook.0 ∙ b.is.overlook;
+        lengths = c.in_ok-cycles.ensures.size;
+        cycles = λ n within. ap (λ (xs : List ℕ). get_or xs n 0) cycles.0 ∙ b.is.cycles n within;
+        first = first.0 ∙ b.is.first;
+        first_unjudged = place_told kind codes _ _ read;
+      };
+      place = read;
     }
   where
     named : (a b : List ℕ) (n : ℕ) (more text : List ℕ) → a ≡ b → text ≡ count_line b n ++ more
