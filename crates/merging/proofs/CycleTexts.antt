@@ -1,7 +1,7 @@
 -- The lines of the lengths of cycles, one after another.
-use Rattle.std.proofs.Common.{◌≡◌, ◌∙◌, ◌⊎◌, ◌<◌, ◌≤◌, ◌^◌, ◌+◌, ◌-◌, ◌++◌, ◌∷◌, [], ℕ, zero, suc, List, ap, append_assoc}
-use Rattle.std.proofs.Common.{append-nil, arith, codes, decimal, drop, get_or, inl, inr, length, refl, set}
-use Rattle.std.proofs.Common.{sym}
+use Rattle.std.proofs.Common.{◌≡◌, ◌∙◌, ◌⊎◌, ◌<◌, ◌≤◌, ◌^◌, ◌+◌, ◌-◌, ◌++◌, ◌∷◌, [], ℕ, zero, suc, List, ap}
+use Rattle.std.proofs.Common.{append_assoc, append-nil, arith, codes, decimal, drop, get_or, inl, inr, length, refl}
+use Rattle.std.proofs.Common.{set, sym}
 use Rattle.std.proofs.lemmas.Bool.{cases_lt}
 use Rattle.std.proofs.lemmas.Grind.{get_or-set_at}
 use Rattle.std.proofs.lemmas.List.{get_or-set_other}
@@ -110,8 +110,8 @@ pub record IsLineRead (counts more : List ℕ) (k : ℕ) (after : List ℕ) (rea
   pub left : after ≡ left_from counts more (read.0 + 1)
 
 -- what is read of the line that stands next
-pub line_read : (counts more items rest new after : List ℕ) (k : ℕ) (read : ℕ × ℕ) → get_or more 0 0 ≡ 102 → Are64Bit counts
-    → k ≤ LONG_CYCLE + 1 → AreRead counts more items k rest → rest ≡ codes "cycle " ++ new
+pub line_read : (counts more items rest new after : List ℕ) (k : ℕ) (read : ℕ × ℕ) → get_or more 0 0 ≡ 102
+    → Are64Bit counts → k ≤ LONG_CYCLE + 1 → AreRead counts more items k rest → rest ≡ codes "cycle " ++ new
     → ((n m : ℕ) (back : List ℕ) → n ≤ LONG_CYCLE → m < 2 ^ 64
     → new ≡ length_name n ++ (codes ": " ++ (decimal m ++ 10 ∷ back)) → (read ≡ (n, m)) × (after ≡ back))
     → IsLineRead counts more k after read

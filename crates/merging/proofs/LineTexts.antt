@@ -1,7 +1,6 @@
 -- Lines, and what stands after them.
-use Rattle.std.proofs.Common.{◌≡◌, ◌∙◌, ◌<◌, ◌≤◌, ◌++◌, ◌∷◌, ℕ, List, Some, ap, append_assoc, get_or, sym}
-use Rattle.std.proofs.Common.{codes, decimal, drop, arith, inl, inr, le-ltb, lt-ltb, nat_eq, nat_lt, ne_eqb, false, refl}
-use Rattle.std.proofs.Common.{true}
+use Rattle.std.proofs.Common.{◌≡◌, ◌∙◌, ◌<◌, ◌≤◌, ◌++◌, ◌∷◌, ℕ, List, Some, ap, append_assoc, arith, codes, decimal}
+use Rattle.std.proofs.Common.{drop, false, get_or, inl, inr, le-ltb, lt-ltb, nat_eq, nat_lt, ne_eqb, refl, sym, true}
 use Rattle.std.proofs.lemmas.Bool.{cases_lt, false≢true}
 use Rattle.ledger.specs.declared.code.TheConstants.{LONG_CYCLE}
 use Rattle.ledger.specs.Counted.{cycle_line, length_name, place_name}

@@ -128,9 +128,11 @@ fn next_section<'a>(
     ensures err { IfErr result (IsNoSection rest.old) }
 {
     let left = rest.left();
-    let refusal = header_refusal(rest);
     let Some(header) = header(rest, alloc)? else {
-        return Err(TextError::Refused { refusal, left });
+        return Err(TextError::Refused {
+            refusal: header_refusal(rest),
+            left,
+        });
     };
     let text = rest.rest();
     let counts = rest.left();

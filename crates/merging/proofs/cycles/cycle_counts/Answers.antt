@@ -36,10 +36,10 @@ lines-preserved c =
       only = λ counts more size short begins is.
           let a = h.only counts more size short begins is in
           let r = line_read counts more items c.lines.rest c.take.new.self c.cycle_count-cycle.new.rest c.lines.least
-          c.cycle_count-cycle.result begins short h.few a (c.lines-test.ensures.found refl) c.cycle_count-cycle.ensures in
-          record {
-            same = one_more counts items c.lines.least cycle count (omega (arith, within, h.size)) r.count r.zeros a.same
-                h.zeros;
+          c.cycle_count-cycle.result begins short h.few a (c.lines-test.ensures.found refl)
+          c.cycle_count-cycle.ensures in record {
+            same = one_more counts items c.lines.least cycle count (omega (arith, within, h.size)) r.count r.zeros
+                a.same h.zeros;
             left = r.left;
           };
     }
@@ -55,13 +55,15 @@ returns-clause-only c counts more size short begins is =
           (w.lines-test.ensures.only new line).0) in (
             ext_get_or 0 items counts (h.size ∙ sym size) (λ v low. elim (cases_lt v c.lines.least) [
               | inl below ↦ a.same v below
-              | inr not ↦ h.zeros v (omega (arith, not)) ∙ sym (none.1 v (omega (arith, not)) (omega (arith, low, h.size)))
+              | inr not ↦ h.zeros v (omega (arith, not))
+                  ∙ sym (none.1 v (omega (arith, not)) (omega (arith, low, h.size)))
             ]),
             w.rest-is ∙ w.lines-test.ensures.kept refl ∙ none.0,
           )
       | then-lines-test+then-cycle-least w ↦
           let r = line_read counts more items c.lines.rest c.take.new.self w.cycle_count-cycle.new.rest c.lines.least
-          w.cycle_count-cycle.result begins short h.few a (w.lines-test.ensures.found refl) w.cycle_count-cycle.ensures in
+          w.cycle_count-cycle.result begins short h.few a (w.lines-test.ensures.found refl)
+          w.cycle_count-cycle.ensures in
           absurd (elim w.then-cycle-least.branch [
             | then-cycle-least-via-then-cycle-least v ↦ omega (arith, v.if-cycle-least.true, r.above)
             | then-cycle-least-via-else-cycle-least+then-cycle-gt-LONG_CYCLE v ↦ omega (

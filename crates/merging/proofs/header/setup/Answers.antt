@@ -4,7 +4,8 @@ use Rattle.merging.proofs.header.setup.Goals as goal
 
 pub returns : goal.returns
 returns c s more within is =
-    let cores = c.option-cores.ensures s.cores 32 _ (omega (arith, within.shape.cores.1)) refl (is ∙ campaign_then s more) in
+    let cores = c.option-cores.ensures s.cores 32 _ (omega (arith, within.shape.cores.1)) refl
+    (is ∙ campaign_then s more) in
     let ops = c.option-ops.ensures s.ops 32 _ (omega (arith, within.shape.ops.1)) refl cores.1 in
     let addresses = c.option-addresses.ensures s.addresses 32 _ (omega (arith, within.shape.addresses.1)) refl ops.1 in
     let fault = c.fault-fault.ensures s.fault _ (c.take.ensures.only _ addresses.1).1 in

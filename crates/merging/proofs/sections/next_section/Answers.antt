@@ -14,8 +14,8 @@ returns-in-Err-clause-err c =
 
 pub returns-then-not-fits-clause-err : goal.returns-then-not-fits-clause-err
 returns-then-not-fits-clause-err c t more s begins =
-    let read = section_read c.args.rest.now c.header.new.rest c.in_ok-header.field-0 c.in-Some.header t more c.in-Some.is
-    c.in_ok-header.ensures.only s begins in
+    let read = section_read c.args.rest.now c.header.new.rest c.in_ok-header.field-0 c.in-Some.header t more
+    c.in-Some.is c.in_ok-header.ensures.only s begins in
     let kind : kind_of t.header.counted ≡ c.kind_of.result =
     ap (λ (x : Header). kind_of x.counted) (sym read.0) ∙ sym c.kind_of.ensures in
     let told = (c.in-Ok.ensures.ok.only s.codes more
