@@ -1,14 +1,16 @@
 -- Whole texts, part by part.
-use Rattle.std.proofs.Common.{◌≡◌, ◌∙◌, ◌<◌, ◌^◌, ◌+◌, ◌++◌, ◌∷◌, [], ℕ, List, Option, None, Some}
-use Rattle.std.proofs.Common.{append_assoc, arith, codes, get_or, inl, inr, length, position, refl}
+use Rattle.std.proofs.Common.{◌≡◌, ◌∙◌, ◌<◌, ◌^◌, ◌+◌, ◌++◌, ℕ, Bool, List, Option, None, Some}
+use Rattle.std.proofs.Common.{append_assoc, arith, codes, get_or, inl, inr, length, position, refl, sym}
 use Rattle.std.proofs.Common.{eq-eqb, false, nat_eq, ne_eqb, true}
+use Rattle.std.proofs.Common.{◌∷◌, [], count_by}
 use Rattle.std.proofs.lemmas.Bool.{cases_lt}
 use Rattle.std.proofs.lemmas.List.{get_or_past}
+use Rattle.std.proofs.lemmas.List.Quantifiers.{position-Some}
 use Rattle.std.proofs.lemmas.List.Sums.{count_by-le-length}
 use Rattle.ledger.specs.declared.code.TheConstants.{LONG_CYCLE}
 use Rattle.ledger.specs.declared.ledger.Ledger.{Ledger}
-use Rattle.ledger.specs.Counts.{AddsUp, IsLedger}
-use Rattle.ledger.specs.Kinds.{is_ordered, is_unjudged, is_overlook, is_cycle_of}
+use Rattle.ledger.specs.Counts.{AddsUp, AreCounts, IsLedger}
+use Rattle.ledger.specs.Kinds.{is_unjudged, is_cycle_of}
 use Rattle.ledger.specs.LedgerLaws.{adds_up}
 use Rattle.ledger.specs.Real.{AreApart, FirstsFit, HasCodes, IsFirstOf, violation_count}
 use Rattle.ledger.proofs.RealLemmas.{firsts_fit, fitting_has_codes}
@@ -46,42 +48,21 @@ text_then kind l more = whole kind
     whole Survey = append_assoc (ledger_text (all_name Survey) (unjudged_name Survey) (noun Survey) l)
         (tail Survey l.first_unjudged) more
 
--- a place below a number of 64 bits
-short_place : (count total : ℕ) (o : Option ℕ) → total < 2 ^ 64 → IsFirstOf count total o → Is64BitPlace o
-short_place count total None few fits = tt
-short_place count total (Some i) few fits = omega (arith, few, fits.0, fits.1)
+-- what few codes have has 64 bits: how many pass a test, for each length how many are cycles of it, and a first place
+pub short_count : (p : ℕ → Bool) (codes : List ℕ) (n : ℕ) → length codes < 2 ^ 64 → n ≡ count_by p codes → n < 2 ^ 64
+short_count p codes n few is = omega (arith, few, is, count_by-le-length p codes)
 
--- a ledger with these counts and these first places has 64 bits for each
-pub record Is64BitLedger (l : Ledger) : Type 0 where
-  pub total : l.total < 2 ^ 64
-  pub ordered : l.ordered < 2 ^ 64
-  pub unjudged : l.unjudged < 2 ^ 64
-  pub overlook : l.overlook < 2 ^ 64
-  pub cycles : Are64Bit l.cycles.items
-  pub first : Is64BitPlace l.first
-  pub first_unjudged : Is64BitPlace l.first_unjudged
+pub short_cycles : (codes counts : List ℕ) → length codes < 2 ^ 64 → length counts ≡ LONG_CYCLE + 1
+    → AreCounts codes counts → Are64Bit counts
+short_cycles codes counts few size are n = elim (cases_lt n (LONG_CYCLE + 1)) [
+  | inl low ↦ short_count (is_cycle_of n) codes (get_or counts n 0) few (are n (omega (arith, low)))
+  | inr past ↦ omega (arith, get_or_past counts n 0 (omega (arith, past, size)))
+]
 
--- so has that of few codes
-pub short_ledger : (codes : List ℕ) (l : Ledger) → IsLedger codes l → length codes < 2 ^ 64 → Is64BitLedger l
-short_ledger codes l is few =
-    let fits = firsts_fit codes l is in
-    let total : l.total < 2 ^ 64 = omega (arith, is.total, few) in record {
-      total = total;
-      ordered = omega (arith, is.ordered, few, count_by-le-length is_ordered codes);
-      unjudged = omega (arith, is.unjudged, few, count_by-le-length is_unjudged codes);
-      overlook = omega (arith, is.overlook, few, count_by-le-length is_overlook codes);
-      cycles = λ n. elim (cases_lt n (LONG_CYCLE + 1)) [
-        | inl low ↦ omega (
-          arith,
-          is.cycles n (omega (arith, low)),
-          few,
-          count_by-le-length (is_cycle_of n) codes,
-        )
-        | inr past ↦ omega (arith, get_or_past l.cycles.items n 0 (omega (arith, past, is.lengths)))
-      ];
-      first = short_place (violation_count l) l.total l.first total fits.violation;
-      first_unjudged = short_place l.unjudged l.total l.first_unjudged total fits.unjudged;
-    }
+pub short_place : (p : ℕ → Bool) (codes : List ℕ) (o : Option ℕ) → length codes < 2 ^ 64 → o ≡ position p codes
+    → Is64BitPlace o
+short_place p codes None few is = tt
+short_place p codes (Some i) few is = omega (arith, few, (position-Some p codes i 0 (sym is)).0)
 
 -- no place is apart from each
 apart_none : (ordered : ℕ) (first : Option ℕ) → AreApart ordered first None
@@ -93,12 +74,13 @@ other_fits : (unjudged total ordered violations : ℕ) (first : Option ℕ) → 
     → ordered + unjudged + violations ≡ total → IsFirstOf violations total first
     → IsFirstOf unjudged total (Some (other_place first)) × AreApart ordered first (Some (other_place first))
 other_fits u total ordered violations None some sums fits = ((some, omega (arith, sums)), tt)
-other_fits u total ordered violations (Some i) some sums fits = elim (cases_lt 0 i) [
-  | inl after ↦ let other : nat_eq i 0 ≡ false = ne_eqb i 0 (λ e. omega (arith, e, after)) in
-      rw other ((some, omega (arith, sums)), ((λ same. omega (arith, same, after)), inr (omega arith)))
-  | inr not ↦ let here : nat_eq i 0 ≡ true = eq-eqb i 0 (omega (arith, not)) in
-      rw here ((some, omega (arith, sums, fits.0)), ((λ same. omega (arith, same, not)), inl (omega (arith, not))))
-]
+other_fits u total ordered violations (Some i) some sums fits = (
+  (some, omega (arith, sums, fits.0)),
+  (
+    (λ same. omega (arith, same)),
+    elim (cases_lt 0 i) [ inl after ↦ inr (omega (arith, after)) | inr not ↦ inl (omega (arith, not)) ],
+  ),
+)
 
 -- a place beside the first violation fits, or none where none is needed
 beside_fits : (unjudged total ordered violations : ℕ) (first : Option ℕ) → ordered + unjudged + violations ≡ total

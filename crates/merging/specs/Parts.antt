@@ -1,5 +1,5 @@
 -- What is read of a text.
-use Rattle.std.specs.Prelude.{◌≡◌, ◌<◌, ◌^◌, ◌==◌, [], ℕ, List, Option, None, Some, IfSome, codes, false}
+use Rattle.std.specs.Prelude.{◌≡◌, ◌<◌, ◌-◌, ◌^◌, ◌==◌, [], ℕ, List, Option, None, Some, IfSome, codes, false}
 use Rattle.std.specs.Prelude.{if◌then◌else◌, position, slice_index}
 use Rattle.ledger.specs.declared.ledger.Ledger.{Ledger}
 use Rattle.ledger.specs.Counted.{first_line}
@@ -30,7 +30,7 @@ tail Survey place = first_line (codes "refused") (noun Survey) place
 -- a place that is not the first violation's
 abbrev pub other_place : Option ℕ → ℕ
 other_place None = 0
-other_place (Some place) = if place == 0 then 1 else 0
+other_place (Some place) = 1 - place
 
 -- a first place of what has no verdict beside the first violation, where some have none
 abbrev pub place_beside : Option ℕ → ℕ → Option ℕ

@@ -13,6 +13,9 @@ use machine::Fault;
 use std::alloc::Global;
 use texts::Cursor;
 
+/// How many bytes the line of a header is given room for before it is printed. A longer one takes more.
+const USUAL_LINE: usize = 160;
+
 /// Reads the number of the option of this name.
 fn option(rest: &mut Cursor<'_>, name: &[u8]) -> usize
     ensures { (n b : ℕ) (more : List ℕ) → n < 2 ^ 64 → IsNoDigit b → rest.old ≡ option_words name.now n ++ b ∷ more
@@ -144,7 +147,7 @@ pub(crate) fn header(rest: &mut Cursor<'_>, alloc: Global) -> Result<Option<Head
     if !is_header(&header) {
         return Ok(None);
     }
-    let mut line = Vec::new(alloc);
+    let mut line = Vec::with_capacity(alloc, USUAL_LINE)?;
     put_header(&mut line, &header)?;
     if !rest.take(&line) {
         return Ok(None);

@@ -24,7 +24,7 @@ fn place_beside(first: Option<usize>, unjudged: usize) -> Option<usize>
     }
     match first {
         None => Some(0),
-        Some(place) => Some(if place == 0 { 1 } else { 0 }),
+        Some(place) => Some(1usize.saturating_sub(place)),
     }
 }
 
