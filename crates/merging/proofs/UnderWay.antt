@@ -144,16 +144,6 @@ none_begins kind codes more b =
       text_some kind b.ledger,
     ))
 
--- a text is some bytes
-pub shorter : (kind : Kind) (codes before after : List ℕ) → BeginsWithLedger kind codes before after
-    → length after < length before
-shorter kind codes before after b = omega (
-  arith,
-  ap (λ (l : List ℕ). length l) b.text,
-  length-append (text_of kind b.ledger) after,
-  text_some kind b.ledger,
-)
-
 -- some bytes are not none
 pub not_none : (xs : List ℕ) → 0 < length xs → xs ≢ []
 not_none [] some is = omega (arith, some)
