@@ -1,5 +1,5 @@
 -- The lines of the lengths of cycles, one after another.
-use Rattle.std.proofs.Common.{◌≡◌, ◌∙◌, ◌⊎◌, ◌<◌, ◌≤◌, ◌^◌, ◌+◌, ◌-◌, ◌++◌, ◌∷◌, [], ℕ, zero, suc, List, ap}
+use Rattle.std.proofs.Common.{◌≡◌, ◌∙◌, ◌<◌, ◌≤◌, ◌^◌, ◌+◌, ◌-◌, ◌++◌, ◌∷◌, [], ℕ, zero, suc, List, ap}
 use Rattle.std.proofs.Common.{append_assoc, append-nil, arith, codes, decimal, drop, get_or, inl, inr, length, refl}
 use Rattle.std.proofs.Common.{set, sym}
 use Rattle.std.proofs.lemmas.Bool.{cases_lt}
@@ -48,20 +48,6 @@ pub record AreRead (counts more items : List ℕ) (k : ℕ) (rest : List ℕ) : 
   pub same : (v : ℕ) → v < k → get_or items v 0 ≡ get_or counts v 0
   pub left : rest ≡ left_from counts more k
 
--- a line stands next: that of the next length whose count is not 0
-pub record IsNextLine (counts more : List ℕ) (k : ℕ) (text : List ℕ) : Type 0 where
-  pub cycle : ℕ
-  pub above : k ≤ cycle
-  pub within : cycle ≤ LONG_CYCLE
-  pub zeros : AreZeros counts k cycle
-  pub is : text ≡ codes "cycle " ++ (length_name cycle ++ (codes ": " ++ (decimal (get_or counts cycle 0)
-      ++ 10 ∷ left_from counts more (cycle + 1))))
-
--- so it is, or all counts that are left are 0
-abbrev pub IsNext : List ℕ → List ℕ → ℕ → List ℕ → Type 0
-IsNext counts more k text =
-    ((text ≡ more) × AreZeros counts k (LONG_CYCLE + 1)) ⊎ IsNextLine counts more k text
-
 -- one count more that is 0
 zeros_more : (counts : List ℕ) (k end : ℕ) → get_or counts k 0 ≡ 0 → AreZeros counts (k + 1) end → AreZeros counts k end
 zeros_more counts k end here zeros v from low = elim (cases_lt k v) [
@@ -69,37 +55,12 @@ zeros_more counts k end here zeros v from low = elim (cases_lt k v) [
   | inr not ↦ let at : v ≡ k = omega (arith, from, not) in ap (λ (j : ℕ). get_or counts j 0) at ∙ here
 ]
 
-next_is : (counts more : List ℕ) (k n : ℕ) → k + n ≡ LONG_CYCLE + 1
-    → IsNext counts more k (lines_from counts k n ++ more)
-unfolding lines_from
-next_is counts more k zero all = inl (refl, λ v from low. absurd (omega (arith, from, low, all)))
-next_is counts more k (suc n) all = go (get_or counts k 0) refl (next_is counts more (k + 1) n (omega (arith, all)))
-  where
-    size : n ≡ LONG_CYCLE + 1 - (k + 1)
-    size = omega (arith, all)
-
-    go : (m : ℕ) → get_or counts k 0 ≡ m → IsNext counts more (k + 1) (lines_from counts (k + 1) n ++ more)
-        → IsNext counts more k ((cycle_line k m ++ lines_from counts (k + 1) n) ++ more)
-    go zero here (inl none) = inl (none.0, zeros_more counts k (LONG_CYCLE + 1) here none.1)
-    go zero here (inr line) = inr (record {
-      cycle = line.cycle;
-      above = omega (arith, line.above);
-      within = line.within;
-      zeros = zeros_more counts k line.cycle here line.zeros;
-      is = line.is;
-    })
-    go (suc m) here later = inr (record {
-      cycle = k;
-      above = omega arith;
-      within = omega (arith, all);
-      zeros = λ v from low. absurd (omega (arith, from, low));
-      is = append_assoc (cycle_line k (suc m)) (lines_from counts (k + 1) n) (more)
-          ∙ cycle_then k (suc m) (lines_from counts (k + 1) n ++ more) (omega arith)
-          ∙ ap (λ (j : ℕ). codes "cycle " ++ (length_name k ++ (codes ": " ++ (decimal j
-          ++ 10 ∷ (lines_from counts (k + 1) n ++ more))))) (sym here)
-          ∙ ap (λ (j : ℕ). codes "cycle " ++ (length_name k ++ (codes ": " ++ (decimal (get_or counts k 0)
-          ++ 10 ∷ (lines_from counts (k + 1) j ++ more))))) size;
-    })
+-- the line of a length whose count is not 0, and those after it
+line_then : (counts more : List ℕ) (k n m : ℕ) → (cycle_line k (suc m) ++ lines_from counts (k + 1) n) ++ more
+    ≡ codes "cycle " ++ (length_name k ++ (codes ": " ++ (decimal (suc m)
+    ++ 10 ∷ (lines_from counts (k + 1) n ++ more))))
+line_then counts more k n m = append_assoc (cycle_line k (suc m)) (lines_from counts (k + 1) n) more
+    ∙ cycle_then k (suc m) (lines_from counts (k + 1) n ++ more) (omega arith)
 
 -- the line of a length was read, and the counts between are 0
 pub record IsLineRead (counts more : List ℕ) (k : ℕ) (after : List ℕ) (read : ℕ × ℕ) : Type 0 where
@@ -110,37 +71,60 @@ pub record IsLineRead (counts more : List ℕ) (k : ℕ) (after : List ℕ) (rea
   pub left : after ≡ left_from counts more (read.0 + 1)
 
 -- what is read of the line that stands next
-pub line_read : (counts more items rest new after : List ℕ) (k : ℕ) (read : ℕ × ℕ) → get_or more 0 0 ≡ 102
-    → Are64Bit counts → k ≤ LONG_CYCLE + 1 → AreRead counts more items k rest → rest ≡ codes "cycle " ++ new
-    → ((n m : ℕ) (back : List ℕ) → n ≤ LONG_CYCLE → m < 2 ^ 64
-    → new ≡ length_name n ++ (codes ": " ++ (decimal m ++ 10 ∷ back)) → (read ≡ (n, m)) × (after ≡ back))
+pub line_read : (counts more new after : List ℕ) (k n : ℕ) (read : ℕ × ℕ) → get_or more 0 0 ≡ 102 → Are64Bit counts
+    → ((cycle m : ℕ) (back : List ℕ) → cycle ≤ LONG_CYCLE → m < 2 ^ 64
+    → new ≡ length_name cycle ++ (codes ": " ++ (decimal m ++ 10 ∷ back)) → (read ≡ (cycle, m)) × (after ≡ back))
+    → k + n ≡ LONG_CYCLE + 1 → lines_from counts k n ++ more ≡ codes "cycle " ++ new
     → IsLineRead counts more k after read
-line_read counts more items rest new after k read begins short few a is reads =
-    elim (next_is counts more k (LONG_CYCLE + 1 - k) (omega (arith, few))) [
-      | inl none ↦ let byte : 99 ≡ 102 = ap (λ (t : List ℕ). get_or t 0 0) (sym is ∙ a.left ∙ none.0) ∙ begins in
-          absurd (omega (arith, byte))
-      | inr line ↦
-          let r = reads line.cycle (get_or counts line.cycle 0) (left_from counts more (line.cycle + 1)) line.within
-          (short line.cycle) (ap (λ (t : List ℕ). drop 6 t) (sym is ∙ a.left ∙ line.is)) in
-          let cycle : read.0 ≡ line.cycle = ap (λ p. p.0) r.0 in record {
-            above = omega (arith, line.above, cycle);
-            within = omega (arith, line.within, cycle);
-            zeros = λ v from low. line.zeros v from (omega (arith, low, cycle));
-            count = ap (λ p. p.1) r.0 ∙ ap (λ (k : ℕ). get_or counts k 0) (sym cycle);
-            left = r.1 ∙ ap (λ (k : ℕ). left_from counts more (k + 1)) (sym cycle);
-          }
-    ]
+unfolding lines_from
+line_read counts more new after k zero read begins short reads all is =
+    absurd (omega (arith, begins, ap (λ (t : List ℕ). get_or t 0 0) is))
+line_read counts more new after k (suc n) read begins short reads all is =
+    go (get_or counts k 0) refl is
+    (line_read counts more new after (k + 1) n read begins short reads (omega (arith, all)))
+  where
+    size : n ≡ LONG_CYCLE + 1 - (k + 1)
+    size = omega (arith, all)
+
+    go : (m : ℕ) → get_or counts k 0 ≡ m
+        → (cycle_line k m ++ lines_from counts (k + 1) n) ++ more ≡ codes "cycle " ++ new
+        → (lines_from counts (k + 1) n ++ more ≡ codes "cycle " ++ new → IsLineRead counts more (k + 1) after read)
+        → IsLineRead counts more k after read
+    go zero here is later = let r = later is in record {
+      above = omega (arith, r.above);
+      within = r.within;
+      zeros = zeros_more counts k read.0 here r.zeros;
+      count = r.count;
+      left = r.left;
+    }
+    go (suc m) here is later =
+        let r = reads k (suc m) (lines_from counts (k + 1) n ++ more) (omega (arith, all))
+        (omega (arith, short k, here)) (ap (λ (t : List ℕ). drop 6 t) (sym is ∙ line_then counts more k n m)) in
+        let cycle : read.0 ≡ k = ap (λ p. p.0) r.0 in record {
+          above = omega (arith, cycle);
+          within = omega (arith, cycle, all);
+          zeros = λ v from low. absurd (omega (arith, from, low, cycle));
+          count = ap (λ p. p.1) r.0 ∙ sym here ∙ ap (λ (j : ℕ). get_or counts j 0) (sym cycle);
+          left = r.1 ∙ ap (λ (j : ℕ). lines_from counts (k + 1) j ++ more) size
+              ∙ ap (λ (j : ℕ). left_from counts more (j + 1)) (sym cycle);
+        }
 
 -- where no line stands next, all counts that are left are 0
-pub none_read : (counts more items rest : List ℕ) (k : ℕ) → k ≤ LONG_CYCLE + 1 → AreRead counts more items k rest
-    → ((new : List ℕ) → rest ≡ codes "cycle " ++ new → ⊥)
-    → (rest ≡ more) × AreZeros counts k (LONG_CYCLE + 1)
-none_read counts more items rest k few a never =
-    elim (next_is counts more k (LONG_CYCLE + 1 - k) (omega (arith, few))) [
-      | inl none ↦ (a.left ∙ none.0, none.1)
-      | inr line ↦ absurd (never (length_name line.cycle ++ (codes ": " ++ (decimal (get_or counts line.cycle 0)
-          ++ 10 ∷ left_from counts more (line.cycle + 1)))) (a.left ∙ line.is))
-    ]
+pub none_read : (counts more : List ℕ) (k n : ℕ) → k + n ≡ LONG_CYCLE + 1
+    → ((new : List ℕ) → lines_from counts k n ++ more ≡ codes "cycle " ++ new → ⊥)
+    → (lines_from counts k n ++ more ≡ more) × AreZeros counts k (LONG_CYCLE + 1)
+unfolding lines_from
+none_read counts more k zero all never = (refl, λ v from low. absurd (omega (arith, from, low, all)))
+none_read counts more k (suc n) all never =
+    go (get_or counts k 0) refl never (none_read counts more (k + 1) n (omega (arith, all)))
+  where
+    go : (m : ℕ) → get_or counts k 0 ≡ m
+        → ((new : List ℕ) → (cycle_line k m ++ lines_from counts (k + 1) n) ++ more ≡ codes "cycle " ++ new → ⊥)
+        → (((new : List ℕ) → lines_from counts (k + 1) n ++ more ≡ codes "cycle " ++ new → ⊥)
+        → (lines_from counts (k + 1) n ++ more ≡ more) × AreZeros counts (k + 1) (LONG_CYCLE + 1))
+        → ((cycle_line k m ++ lines_from counts (k + 1) n) ++ more ≡ more) × AreZeros counts k (LONG_CYCLE + 1)
+    go zero here never later = let r = later never in (r.0, zeros_more counts k (LONG_CYCLE + 1) here r.1)
+    go (suc m) here never later = absurd (never _ (line_then counts more k n m))
 
 -- one count more
 pub one_more : (counts items : List ℕ) (k n m : ℕ) → n < length items → m ≡ get_or counts n 0 → AreZeros counts k n

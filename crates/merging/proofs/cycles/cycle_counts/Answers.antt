@@ -1,4 +1,4 @@
-use Rattle.std.proofs.Common.{◌≡◌, ◌∙◌, ◌≤◌, ℕ, List, ap, arith, get_or, inl, inr, refl, replicate, rules, sym}
+use Rattle.std.proofs.Common.{◌≡◌, ◌∙◌, ◌≤◌, ◌-◌, ℕ, List, ap, arith, get_or, inl, inr, refl, replicate, rules, sym}
 use Rattle.std.proofs.lemmas.Bool.{cases_lt, false≢true}
 use Rattle.std.proofs.lemmas.List.{ext_get_or, get_or-set_other}
 use Rattle.machine.proofs.Opening.{get_or_same}
@@ -35,9 +35,9 @@ lines-preserved c =
           ∙ h.zeros v (omega (arith, from, above));
       only = λ counts more size short begins is.
           let a = h.only counts more size short begins is in
-          let r = line_read counts more items c.lines.rest c.take.new.self c.cycle_count-cycle.new.rest c.lines.least
-          c.cycle_count-cycle.result begins short h.few a (c.lines-test.ensures.found refl)
-          c.cycle_count-cycle.ensures in record {
+          let r = line_read counts more c.take.new.self c.cycle_count-cycle.new.rest c.lines.least
+          (514 - c.lines.least) c.cycle_count-cycle.result begins short c.cycle_count-cycle.ensures
+          (omega (arith, h.few)) (sym a.left ∙ c.lines-test.ensures.found refl) in record {
             same = one_more counts items c.lines.least cycle count (omega (arith, within, h.size)) r.count r.zeros
                 a.same h.zeros;
             left = r.left;
@@ -51,19 +51,19 @@ returns-clause-only c counts more size short begins is =
     let a = h.only counts more size short begins is in
     elim c.lines-test.branch [
       | else-lines-test w ↦
-          let none = none_read counts more items c.lines.rest c.lines.least h.few a (λ new line. false≢true
-          (w.lines-test.ensures.only new line).0) in (
+          let none = none_read counts more c.lines.least (514 - c.lines.least) (omega (arith, h.few)) (λ new line.
+          false≢true (w.lines-test.ensures.only new (a.left ∙ line)).0) in (
             ext_get_or 0 items counts (h.size ∙ sym size) (λ v low. elim (cases_lt v c.lines.least) [
               | inl below ↦ a.same v below
               | inr not ↦ h.zeros v (omega (arith, not))
                   ∙ sym (none.1 v (omega (arith, not)) (omega (arith, low, h.size)))
             ]),
-            w.rest-is ∙ w.lines-test.ensures.kept refl ∙ none.0,
+            w.rest-is ∙ w.lines-test.ensures.kept refl ∙ a.left ∙ none.0,
           )
       | then-lines-test+then-cycle-least w ↦
-          let r = line_read counts more items c.lines.rest c.take.new.self w.cycle_count-cycle.new.rest c.lines.least
-          w.cycle_count-cycle.result begins short h.few a (w.lines-test.ensures.found refl)
-          w.cycle_count-cycle.ensures in
+          let r = line_read counts more c.take.new.self w.cycle_count-cycle.new.rest c.lines.least
+          (514 - c.lines.least) w.cycle_count-cycle.result begins short w.cycle_count-cycle.ensures
+          (omega (arith, h.few)) (sym a.left ∙ w.lines-test.ensures.found refl) in
           absurd (elim w.then-cycle-least.branch [
             | then-cycle-least-via-then-cycle-least v ↦ omega (arith, v.if-cycle-least.true, r.above)
             | then-cycle-least-via-else-cycle-least+then-cycle-gt-LONG_CYCLE v ↦ omega (
