@@ -41,8 +41,7 @@ abbrev pub place_read : Kind → Option ℕ → Option ℕ → Option ℕ
 place_read Campaign other told = other
 place_read Survey other told = told
 
--- a ledger tells of these codes; the first place of what has no verdict is that of a text, or another one
+-- a ledger that is read tells of these codes, with the first place of what has no verdict that is read
 pub record IsReadOf (kind : Kind) (codes : List ℕ) (l : Ledger) : Type 0 where
   pub tells : HasTextOf kind codes l
-  pub place : l.first_unjudged
-      ≡ place_read kind (place_beside l.first l.unjudged) (position is_unjudged codes)
+  pub place : l.first_unjudged ≡ place_read kind (place_beside l.first l.unjudged) (position is_unjudged codes)

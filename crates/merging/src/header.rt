@@ -13,8 +13,8 @@ use machine::Fault;
 use std::alloc::Global;
 use texts::Cursor;
 
-/// How many bytes the line of a header is given room for before it is printed. A longer one takes more.
-const USUAL_LINE: usize = 160;
+/// How many bytes the line of a header is given room for before it is printed: the longest one has no more.
+const HEADER_ROOM: usize = 168;
 
 /// Reads the number of the option of this name.
 fn option(rest: &mut Cursor<'_>, name: &[u8]) -> usize
@@ -147,7 +147,7 @@ pub(crate) fn header(rest: &mut Cursor<'_>, alloc: Global) -> Result<Option<Head
     if !is_header(&header) {
         return Ok(None);
     }
-    let mut line = Vec::with_capacity(alloc, USUAL_LINE)?;
+    let mut line = Vec::with_capacity(alloc, HEADER_ROOM)?;
     put_header(&mut line, &header)?;
     if !rest.take(&line) {
         return Ok(None);
