@@ -93,6 +93,9 @@ fn put_first(
     Ok(())
 }
 
+/// How many bytes a text of counts is given room for before it is printed: most have no more.
+const TEXT_ROOM: usize = 256;
+
 /// The text of the counts of a ledger, by the names of all and of what has no verdict, and of its first
 /// violation. Fails only if out of memory.
 fn ledger_text(
@@ -104,7 +107,7 @@ fn ledger_text(
 ) -> Result<Vec<u8>, OutOfMemory>
     ensures { IfOk result (λ text. text.items ≡ ledger_text all.now unjudged.now noun.now ledger.now) }
 {
-    let mut out = Vec::new(alloc);
+    let mut out = Vec::with_capacity(alloc, TEXT_ROOM)?;
     put_count(&mut out, all, ledger.total)?;
     put_count(&mut out, b"ordered", ledger.ordered)?;
     put_count(&mut out, unjudged, ledger.unjudged)?;
