@@ -1,5 +1,5 @@
 -- The events that stand right before others.
-use Rattle.std.proofs.Common.{◌≡◌, ◌≢◌, ◌<◌, ◌≤◌, ◌+◌, ◌-◌, ◌⊎◌, inl, inr, ℕ, Bool, true, false, cond, List}
+use Rattle.std.proofs.Common.{◌≡◌, ◌≢◌, ◌<◌, ◌≤◌, ◌+◌, ◌⊎◌, inl, inr, ℕ, Bool, true, false, cond, List}
 use Rattle.std.proofs.Common.{Some, None, get_or, length, arith, sym, ap, subst, ◌∙◌}
 use Rattle.std.proofs.lemmas.Bool.{cases_eq}
 use Rattle.recording.specs.Execution.{Execution, event_count, event_at, write_list, ProgramOrder, Reads, Writes}
@@ -99,35 +99,41 @@ pub newer_none : (x : Execution) (p : IndexedEvent) (w : ℕ) → IsIndexed x p 
     → IsFirstNewer x p.number w → ⊥
 newer_none x p w hp is h = let no : None ≡ Some h.0 = sym is ∙ (hp.reads ∙ h.1) in cc
 
--- the write before a write stands before it
-pub write_before_at : (x : Execution) (p : IndexedEvent) (a d : ℕ) (ws : List ℕ) → IsIndexed x p → p.writes ≡ Some a
-    → ws ≡ write_list x a → IsNextWrite x d p.number → get_or ws (p.place - 1) 0 ≡ d
-write_before_at x p a d ws hp is list h =
-    let here : Writes x p.number a = sym hp.writes ∙ is in
-    let one : h.0 ≡ a = (let both : Some h.0 ≡ Some a = sym h.2 ∙ here in cc) in
-    let writes : Writes x d a = subst (λ (b : ℕ). Writes x d b) one h.1 in
-    let next : place (write_list x a) p.number ≡ place (write_list x a) d + 1 =
-    subst (λ (b : ℕ). place (write_list x b) p.number ≡ place (write_list x b) d + 1) one h.3 in
-    let inside : place (write_list x a) d < length (write_list x a) =
-    place_in (write_list x a) d (omega (arith, (hp.well_formed.write_lists a).once d writes)) in
-    let at : p.place - 1 ≡ place (write_list x a) d = omega (arith, hp.place a here, next) in
-    ap (λ (vs : List ℕ). get_or vs (p.place - 1) 0) list
-    ∙ (ap (λ (i : ℕ). get_or (write_list x a) i 0) at ∙ at_place (write_list x a) d inside)
-
--- the write at the place before that of a write is the one before it
+-- the write at the next place is the next one
 pub next_write_at : (x : Execution) (p : IndexedEvent) (a : ℕ) (ws : List ℕ) → IsIndexed x p → p.writes ≡ Some a
-    → ws ≡ write_list x a → 0 < p.place → IsNextWrite x (get_or ws (p.place - 1) 0) p.number
-next_write_at x p a ws hp is list from =
+    → ws ≡ write_list x a → p.place + 1 < length ws → IsNextWrite x p.number (get_or ws (p.place + 1) 0)
+next_write_at x p a ws hp is list low =
     let here : Writes x p.number a = sym hp.writes ∙ is in
     let lists = hp.well_formed.write_lists a in
-    let inside = place_in (write_list x a) p.number (omega (arith, lists.once p.number here)) in
-    let low : p.place - 1 < length (write_list x a) = omega (arith, hp.place a here, inside) in
-    let w : ℕ = get_or (write_list x a) (p.place - 1) 0 in
-    let writes : Writes x w a = lists.nothing_else w (times_at (write_list x a) (p.place - 1) low) in
-    let at : place (write_list x a) w ≡ p.place - 1 =
-    place_at (write_list x a) (p.place - 1) low (omega (arith, lists.once w writes)) in
-    subst (λ (vs : List ℕ). IsNextWrite x (get_or vs (p.place - 1) 0) p.number) (sym list)
-    (a, writes, here, omega (arith, hp.place a here, at, from))
+    let next : p.place + 1 < length (write_list x a) = omega (arith, low, ap (λ (vs : List ℕ). length vs) list) in
+    let w : ℕ = get_or (write_list x a) (p.place + 1) 0 in
+    let writes : Writes x w a = lists.nothing_else w (times_at (write_list x a) (p.place + 1) next) in
+    let at : place (write_list x a) w ≡ p.place + 1 =
+    place_at (write_list x a) (p.place + 1) next (omega (arith, lists.once w writes)) in
+    subst (λ (vs : List ℕ). IsNextWrite x p.number (get_or vs (p.place + 1) 0)) (sym list)
+    (a, here, writes, omega (arith, hp.place a here, at))
+
+-- and it alone, where its place is one of the list
+pub next_write_is : (x : Execution) (p : IndexedEvent) (a d : ℕ) (ws : List ℕ) → IsIndexed x p → p.writes ≡ Some a
+    → ws ≡ write_list x a → IsNextWrite x p.number d → (p.place + 1 < length ws) × (d ≡ get_or ws (p.place + 1) 0)
+next_write_is x p a d ws hp is list h =
+    let here : Writes x p.number a = sym hp.writes ∙ is in
+    let one : h.0 ≡ a = (let both : Some h.0 ≡ Some a = sym h.1 ∙ here in cc) in
+    let writes : Writes x d a = subst (λ (b : ℕ). Writes x d b) one h.2 in
+    let next : place (write_list x a) d ≡ place (write_list x a) p.number + 1 =
+    subst (λ (b : ℕ). place (write_list x b) d ≡ place (write_list x b) p.number + 1) one h.3 in
+    let inside : place (write_list x a) d < length (write_list x a) =
+    place_in (write_list x a) d (omega (arith, (hp.well_formed.write_lists a).once d writes)) in
+    let at : p.place + 1 ≡ place (write_list x a) d = omega (arith, hp.place a here, next) in (
+      omega (arith, at, inside, ap (λ (vs : List ℕ). length vs) list),
+      sym (ap (λ (vs : List ℕ). get_or vs (p.place + 1) 0) list
+          ∙ (ap (λ (i : ℕ). get_or (write_list x a) i 0) at ∙ at_place (write_list x a) d inside)),
+    )
+
+-- what does not write has no next write
+pub no_next_write : (x : Execution) (p : IndexedEvent) (d : ℕ) → IsIndexed x p → p.writes ≡ None
+    → IsNextWrite x p.number d → ⊥
+no_next_write x p d hp is h = let no : None ≡ Some h.0 = sym is ∙ (hp.writes ∙ h.1) in cc
 
 -- the write before another in their write list is before it in every memory order
 pub next_write_forced : (x : Execution) → IsWellFormed x → (d e : ℕ) → IsNextWrite x d e → Forced x d e
@@ -149,25 +155,3 @@ pub newer_forced : (x : Execution) → IsWellFormed x → (e w : ℕ) → IsFirs
 newer_forced x wf e w h other own =
     let inside = place_in (write_list x h.0) w (omega (arith, (wf.write_lists h.0).once w h.2)) in
     (Fr, (h.0, h.1, h.2, other, own, (h.3 w inside).1 (omega arith)))
-
--- and its place is one of the list
-pub place_low : (x : Execution) (p : IndexedEvent) (a : ℕ) (ws : List ℕ) → IsIndexed x p → p.writes ≡ Some a
-    → ws ≡ write_list x a → p.place < length ws
-place_low x p a ws hp is list =
-    let here : Writes x p.number a = sym hp.writes ∙ is in
-    omega (
-      arith,
-      hp.place a here,
-      place_in (write_list x a) p.number (omega (arith, (hp.well_formed.write_lists a).once p.number here)),
-      ap (λ (vs : List ℕ). length vs) list,
-    )
-
--- the first write of a list has none before it
-pub first_write : (x : Execution) (p : IndexedEvent) (a d : ℕ) → IsIndexed x p → p.writes ≡ Some a → p.place ≡ 0
-    → IsNextWrite x d p.number → ⊥
-first_write x p a d hp is first h =
-    let here : Writes x p.number a = sym hp.writes ∙ is in
-    let one : h.0 ≡ a = (let both : Some h.0 ≡ Some a = sym h.2 ∙ here in cc) in
-    let next : place (write_list x a) p.number ≡ place (write_list x a) d + 1 =
-    subst (λ (b : ℕ). place (write_list x b) p.number ≡ place (write_list x b) d + 1) one h.3 in
-    omega (arith, hp.place a here, next, first)

@@ -1,7 +1,6 @@
 -- Pairs of a recording, with counts.
 use Rattle.std.specs.Prelude.{◌≡◌, ◌≤◌, ◌<◌, ◌+◌, ◌⊎◌, ℕ, true, false, Some, [], length, slice_index}
 use Rattle.recording.specs.Execution.{Execution, event_count, source_of}
-use Rattle.relations.specs.Direct.{IsNextWrite}
 use Rattle.relations.specs.Forced.{Forced}
 use Rattle.order.specs.Open.{IsOpen}
 use Rattle.long.specs.declared.linking.Linked.{Linked}
@@ -24,6 +23,6 @@ pub record IsLinked (x : Execution) (l : Linked) : Type 0 where
 abbrev pub KeepsPairs : Linked → Linked → Type 0
 KeepsPairs old new = (d e : ℕ) → 0 < times_kept old.pairs d e → 0 < times_kept new.pairs d e
 
--- d may be forced right before e, for another reason than that e is newer than the source of d
+-- d may be forced right before e by their cores or as its source
 abbrev pub IsRightBefore : Execution → ℕ → ℕ → Type 0
-IsRightBefore x d e = IsLast x true d e ⊎ (IsLast x false d e ⊎ ((source_of x e ≡ Some d) ⊎ IsNextWrite x d e))
+IsRightBefore x d e = IsLast x true d e ⊎ (IsLast x false d e ⊎ (source_of x e ≡ Some d))

@@ -34,23 +34,24 @@ fn source_or_self(places: &Places<'_>, event: EventId) -> EventId
     }
 }
 
-/// The write before an event in its write list; the event itself where there is none.
-fn write_before(places: &Places<'_>, event: EventId) -> EventId
+/// The write after an event in its write list, if it writes and there is one.
+fn write_after(places: &Places<'_>, event: EventId) -> Option<EventId>
     requires { event < event_count places.now }
-    ensures before { (d : ℕ) → IsNextWrite places.now d event → result ≡ d }
-    ensures own { (result ≡ event) ⊎ IsNextWrite places.now result event }
+    ensures { MatchOption result ((d : ℕ) → ¬ IsNextWrite places.now event d)
+        (λ w. IsNextWrite places.now event w × ((d : ℕ) → IsNextWrite places.now event d → d ≡ w)) }
 {
     places.sound();
     let placed = places.event(event as usize);
     let Some(address) = placed.writes else {
-        return event;
+        return None;
     };
-    let place = placed.place as usize;
-    if place == 0 {
-        return event;
-    }
     let list = places.write_list(address);
-    list[place - 1]
+    let next = placed.place as usize + 1;
+    if next < list.len() {
+        Some(list[next])
+    } else {
+        None
+    }
 }
 
 /// The first write that is newer than the source of an event, if it reads and there is one.
@@ -99,7 +100,7 @@ fn last_of(is_passed: bool, last: EventId, event: EventId) -> EventId
 impl Linked {
     ghost use Rattle.std.specs.Prelude.{◌≡◌, ◌≤◌, ◌<◌, ◌+◌, ◌^◌, ℕ, true, false, IfOk, IsTrue, OnOk, length};
     ghost use Rattle.recording.specs.Execution.{event_count};
-    ghost use Rattle.relations.specs.Direct.{IsFirstNewer};
+    ghost use Rattle.relations.specs.Direct.{IsFirstNewer, IsNextWrite};
     ghost use Rattle.relations.specs.Forced.{Forced, IsCoreStart};
     ghost use Rattle.long.specs.Chains.{times_kept, HasPairMore};
     ghost use Rattle.long.specs.Linked.{IsCounted, IsLinked, IsRightBefore, KeepsPairs};
@@ -153,8 +154,9 @@ impl Linked {
         Ok(())
     }
 
-    /// Puts the forced pairs of which an event is the second, but for those of reads that it is newer for. Given are the
-    /// first event of its core, and the last before it that is no plain load, and no plain store, where there are such.
+    /// Puts the forced pairs of which an event is the second, but for those of writes that it is next to and of reads that
+    /// it is newer for. Given are the first event of its core, and the last before it that is no plain load, and no plain
+    /// store, where there are such.
     fn put_before(
         &mut self,
         places: &Places<'_>,
@@ -167,9 +169,9 @@ impl Linked {
         requires start { IsCoreStart places.now start event }
         requires nonload { (d : ℕ) → IsLast places.now true d event → nonload ≡ d }
         requires nonstore { (d : ℕ) → IsLast places.now false d event → nonstore ≡ d }
-        requires few { length self.old.pairs.links + 5 < 2 ^ 32 }
+        requires few { length self.old.pairs.links + 4 < 2 ^ 32 }
         requires linked { IsLinked places.now self.old }
-        ensures few { OnOk result (length self.new.pairs.links ≤ length self.old.pairs.links + 4) }
+        ensures few { OnOk result (length self.new.pairs.links ≤ length self.old.pairs.links + 3) }
         ensures linked { OnOk result (IsLinked places.now self.new) }
         ensures kept { OnOk result (KeepsPairs self.old self.new) }
         ensures before { OnOk result ((d : ℕ) → IsRightBefore places.now d event → Forced places.now d event
@@ -181,9 +183,25 @@ impl Linked {
         let source = source_or_self(places, event);
         let is_read_from = source != event && !is_earlier(start, source, event);
         self.put_forced(places, source, event, is_read_from)?;
-        let write = write_before(places, event);
-        self.put_forced(places, write, event, write != event)?;
         Ok(())
+    }
+
+    /// Puts the pair of an event and the write after it in its write list, if there is one.
+    fn put_next(&mut self, places: &Places<'_>, event: EventId) -> Result<(), OutOfMemory>
+        requires event { event < event_count places.now }
+        requires few { length self.old.pairs.links + 2 < 2 ^ 32 }
+        requires linked { IsLinked places.now self.old }
+        ensures few { OnOk result (length self.new.pairs.links ≤ length self.old.pairs.links + 1) }
+        ensures linked { OnOk result (IsLinked places.now self.new) }
+        ensures kept { OnOk result (KeepsPairs self.old self.new) }
+        ensures next { OnOk result ((w : ℕ) → IsNextWrite places.now event w
+            → 0 < times_kept self.new.pairs event w) }
+    {
+        places.sound();
+        match write_after(places, event) {
+            Some(write) => self.put_forced(places, event, write, true),
+            None => Ok(()),
+        }
     }
 
     /// Puts the pair of an event and the first write that is newer than its source, if there is one and it is forced.
@@ -232,6 +250,7 @@ pub(crate) fn link_all(alloc: Global, places: &Places<'_>) -> Result<Linked, Out
             start = number;
         }
         linked.put_before(places, number, start, nonload, nonstore)?;
+        linked.put_next(places, number)?;
         linked.put_newer(places, number, start)?;
         let event = places.event(number as usize);
         nonload = last_of(event.is_load, nonload, number);

@@ -2,7 +2,7 @@ use Rattle.std.proofs.Common.{◌<◌, inl, inr, ℕ, true, false, arith, sym, s
 use Rattle.std.proofs.lemmas.Bool.{cases_eq}
 use Rattle.recording.specs.Execution.{event_at, event_count}
 use Rattle.relations.proofs.Cores.{core_next, core_so_far, core_start}
-use Rattle.relations.specs.Direct.{is_passed, IsFirstNewer}
+use Rattle.relations.specs.Direct.{is_passed, IsFirstNewer, IsNextWrite}
 use Rattle.relations.specs.Forced.{Forced}
 use Rattle.relations.specs.ForcedLaws.{forced_within}
 use Rattle.long.specs.Chains.{times_kept}
@@ -19,6 +19,7 @@ loop-number-init c = record {
   nonload = λ d h. absurd (omega (arith, h.0));
   nonstore = λ d h. absurd (omega (arith, h.0));
   before = λ d e low. absurd (omega arith);
+  next = λ d e low. absurd (omega arith);
   newer = λ e w low. absurd (omega arith);
 }
 
@@ -27,6 +28,7 @@ loop-number-preserved c =
     let x = c.args.places.now in
     let n = c.loop-number.number in
     let made = c.in_ok-put_before.ensures in
+    let next = c.in_ok-put_next.ensures in
     let more = c.in_ok-put_newer.ensures in
     let was = c.loop-number.invariant in
     let new = c.put_newer.new.self.pairs in
@@ -38,7 +40,7 @@ loop-number-preserved c =
       | else-not-is_after w ↦ inr (w.if-not-is_after.false, w.start-is)
     ]) in
     record {
-      few = omega (arith, more.few, made.few, was.few);
+      few = omega (arith, more.few, next.few, made.few, was.few);
       linked = more.linked;
       core = core.1;
       nonload = last_next x true n c.loop-number.nonload c.last_of-nonload.result c.event-event.result.now.is_load
@@ -50,16 +52,23 @@ loop-number-preserved c =
           ∙ ap (λ (k : ℕ). is_passed false (event_at x k)) c.event-event.ensures.number)
           c.last_of-nonstore.ensures was.nonstore;
       before = λ d e low right forced. elim (cases_eq n e) [
-        | inl one ↦ subst (λ (k : ℕ). 0 < times_kept new d k) one (more.kept d n
+        | inl one ↦ subst (λ (k : ℕ). 0 < times_kept new d k) one (more.kept d n (next.kept d n
             (made.before d (subst (λ (k : ℕ). IsRightBefore x d k) (sym one) right)
-            (subst (λ (k : ℕ). Forced x d k) (sym one) forced)))
-        | inr other ↦ more.kept d e (made.kept d e (was.before d e (omega (arith, low, other)) right forced))
+            (subst (λ (k : ℕ). Forced x d k) (sym one) forced))))
+        | inr other ↦ more.kept d e (next.kept d e
+            (made.kept d e (was.before d e (omega (arith, low, other)) right forced)))
+      ];
+      next = λ d e low is. elim (cases_eq n d) [
+        | inl one ↦ subst (λ (k : ℕ). 0 < times_kept new k e) one
+            (more.kept n e (next.next e (subst (λ (k : ℕ). IsNextWrite x k e) (sym one) is)))
+        | inr other ↦ more.kept d e (next.kept d e (made.kept d e (was.next d e (omega (arith, low, other)) is)))
       ];
       newer = λ e w low first forced. elim (cases_eq n e) [
         | inl one ↦ subst (λ (k : ℕ). 0 < times_kept new k w) one
             (more.newer w (subst (λ (k : ℕ). IsFirstNewer x k w) (sym one) first)
             (subst (λ (k : ℕ). Forced x k w) (sym one) forced))
-        | inr other ↦ more.kept e w (made.kept e w (was.newer e w (omega (arith, low, other)) first forced))
+        | inr other ↦ more.kept e w (next.kept e w
+            (made.kept e w (was.newer e w (omega (arith, low, other)) first forced)))
       ];
     }
 
@@ -85,9 +94,9 @@ returns-clause-enough c = λ d e step.
       | inr more ↦ elim more [
         | inl store ↦ was.before d e second (inr (inl store)) step.1
         | inr rest ↦ elim rest [
-          | inl source ↦ was.before d e second (inr (inr (inl source))) step.1
+          | inl source ↦ was.before d e second (inr (inr source)) step.1
           | inr last ↦ elim last [
-            | inl next ↦ was.before d e second (inr (inr (inr next))) step.1
+            | inl next ↦ was.next d e first next
             | inr newer ↦ was.newer d e first newer step.1
           ]
         ]

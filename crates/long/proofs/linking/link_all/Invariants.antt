@@ -1,5 +1,5 @@
 use Rattle.std.proofs.Common.{◌≡◌, ◌≤◌, ◌<◌, ◌*◌, ℕ, true, false, length}
-use Rattle.relations.specs.Direct.{IsFirstNewer}
+use Rattle.relations.specs.Direct.{IsFirstNewer, IsNextWrite}
 use Rattle.relations.specs.Forced.{Forced}
 use Rattle.relations.proofs.Cores.{IsCoreSoFar}
 use Rattle.long.specs.Chains.{times_kept}
@@ -16,6 +16,7 @@ invariant-loop-number l = record {
   nonstore : (d : ℕ) → IsLast l.places false d l.number → l.nonstore ≡ d;
   before : (d e : ℕ) → e < l.number → IsRightBefore l.places d e → Forced l.places d e
       → 0 < times_kept l.linked.pairs d e;
+  next : (d e : ℕ) → d < l.number → IsNextWrite l.places d e → 0 < times_kept l.linked.pairs d e;
   newer : (e w : ℕ) → e < l.number → IsFirstNewer l.places e w → Forced l.places e w
       → 0 < times_kept l.linked.pairs e w;
 }

@@ -2,7 +2,7 @@ use Rattle.std.proofs.Common.{◌≡◌, ◌<◌, ◌∙◌, inl, inr, ℕ, sym,
 use Rattle.std.proofs.lemmas.Bool.{eqb-false, iff_false, not-true}
 use Rattle.relations.specs.Forced.{Forced}
 use Rattle.long.specs.Chains.{times_kept}
-use Rattle.long.proofs.Steps.{next_write_forced, source_forced}
+use Rattle.long.proofs.Steps.{source_forced}
 use Rattle.long.proofs.linking.Linked.put_before.Goals as goal
 use Rattle.long.proofs.linking.Linked.put_before.Goals.{then-source-event, else-source-event}
 
@@ -16,39 +16,25 @@ put_forced-requires-3-clause-known c is = elim c.if-source-event.branch [
   | else-source-event w ↦ absurd (eqb-false _ _ (not-true _ (sym w.is_read_from-is ∙ is)) w.if-source-event.false)
 ]
 
-pub put_forced-requires-4-clause-known : goal.put_forced-requires-4-clause-known
-put_forced-requires-4-clause-known c is = elim c.write_before-write.ensures.own [
-  | inl own ↦ absurd (eqb-false _ _ (not-true _ is) own)
-  | inr next ↦ next_write_forced c.args.places.now c.sound.ensures.well_formed c.write_before-write.result c.args.event
-      next
-]
-
 pub returns-clause-before : goal.returns-clause-before
 returns-clause-before c =
     let x = c.args.places.now in
     let e = c.args.event in
-    let new = c.put_forced-4.new.self in
+    let new = c.put_forced-3.new.self in
     let is : (a d : ℕ) → (Forced x a e → 0 < times_kept new.pairs a e) → a ≡ d → Forced x d e
     → 0 < times_kept new.pairs d e =
     λ a d put same forced. subst (λ (k : ℕ). 0 < times_kept new.pairs k e) same
     (put (subst (λ (k : ℕ). Forced x k e) (sym same) forced)) in
     λ d right forced. elim right [
       | inl load ↦ is c.args.nonload d
-          (λ f. c.in_ok-put_forced-4.ensures.kept c.args.nonload e (c.in_ok-put_forced-3.ensures.kept c.args.nonload e
-          (c.in_ok-put_forced-2.ensures.kept c.args.nonload e (c.in_ok-put_forced.ensures.here f))))
+          (λ f. c.in_ok-put_forced-3.ensures.kept c.args.nonload e (c.in_ok-put_forced-2.ensures.kept c.args.nonload e
+          (c.in_ok-put_forced.ensures.here f)))
           (c.requires.nonload d load) forced
       | inr more ↦ elim more [
         | inl store ↦ is c.args.nonstore d
-            (λ f. c.in_ok-put_forced-4.ensures.kept c.args.nonstore e
-            (c.in_ok-put_forced-3.ensures.kept c.args.nonstore e (c.in_ok-put_forced-2.ensures.here f)))
+            (λ f. c.in_ok-put_forced-3.ensures.kept c.args.nonstore e (c.in_ok-put_forced-2.ensures.here f))
             (c.requires.nonstore d store) forced
-        | inr rest ↦ elim rest [
-          | inl source ↦ is c.source_or_self-source.result d
-              (λ f. c.in_ok-put_forced-4.ensures.kept c.source_or_self-source.result e
-              (c.in_ok-put_forced-3.ensures.here f))
-              (c.source_or_self-source.ensures.source d source) forced
-          | inr next ↦ is c.write_before-write.result d c.in_ok-put_forced-4.ensures.here
-              (c.write_before-write.ensures.before d next) forced
-        ]
+        | inr source ↦ is c.source_or_self-source.result d c.in_ok-put_forced-3.ensures.here
+            (c.source_or_self-source.ensures.source d source) forced
       ]
     ]

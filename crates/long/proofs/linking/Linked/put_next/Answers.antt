@@ -1,0 +1,24 @@
+use Rattle.std.proofs.Common.{◌≡◌, ◌<◌, ℕ, sym, subst}
+use Rattle.std.proofs.lemmas.Result.{on_ok_weaker}
+use Rattle.long.specs.Chains.{times_kept}
+use Rattle.long.proofs.Steps.{next_write_forced}
+use Rattle.long.proofs.linking.Linked.put_next.Goals as goal
+
+pub put_forced-requires-clause-known : goal.put_forced-requires-clause-known
+put_forced-requires-clause-known c is =
+    next_write_forced c.args.places.now c.sound.ensures.well_formed c.args.event c.in-Some.write c.in-Some.ensures.0
+
+pub returns-in-Some-clause-next : goal.returns-in-Some-clause-next
+returns-in-Some-clause-next c =
+    let x = c.args.places.now in
+    let e = c.args.event in
+    let new = c.put_forced.new.self in
+    on_ok_weaker c.put_forced.result
+    (λ put w h.
+    let only : w ≡ c.in-Some.write = c.in-Some.ensures.1 w h in
+    subst (λ (k : ℕ). 0 < times_kept new.pairs e k) (sym only)
+    (put (next_write_forced x c.sound.ensures.well_formed e c.in-Some.write c.in-Some.ensures.0)))
+    c.put_forced.ensures.here
+
+pub returns-in-None-clause-next : goal.returns-in-None-clause-next
+returns-in-None-clause-next c w h = absurd (c.in-None.ensures w h)
