@@ -55,7 +55,7 @@ no_digit s t first second = list_any-append is_digit s t ∙ rw (first, second) 
 
 -- what a text spells after one without a digit
 pub spells_after : (s t ms : List ℕ) → HasNoDigit s → Spells ms t → Spells ms (s ++ t)
-spells_after s t [] none h = no_digit s t none h
+spells_after s t [] none h = tt
 spells_after s t (n ∷ ms) none h = (
   s ++ h.0,
   h.1,
@@ -65,21 +65,6 @@ spells_after s t (n ∷ ms) none h = (
   h.5,
   h.6,
   ap (λ (u : List ℕ). s ++ u) h.7 ∙ sym (append_assoc s h.0 (decimal n ++ h.1 ∷ h.2)),
-)
-
--- what two texts spell
-pub spells_both : (ns ms s t : List ℕ) → Spells ns s → Spells ms t → Spells (ns ++ ms) (s ++ t)
-spells_both [] ms s t h k = spells_after s t ms h k
-spells_both (n ∷ ns) ms s t h k = (
-  h.0,
-  h.1,
-  h.2 ++ t,
-  h.3,
-  h.4,
-  h.5,
-  spells_both ns ms (h.1 ∷ h.2) t h.6 k,
-  ap (λ (u : List ℕ). u ++ t) h.7 ∙ append_assoc h.0 (decimal n ++ h.1 ∷ h.2) t
-      ∙ ap (λ (u : List ℕ). h.0 ++ u) (append_assoc (decimal n) (h.1 ∷ h.2) t),
 )
 
 -- a number before another byte
@@ -122,49 +107,68 @@ reason_text Fr = refl
 in_order : (a b c d : List ℕ) → a ++ b ++ c ++ d ≡ a ++ (b ++ (c ++ d))
 in_order a b c d = append_assoc (a ++ b) c d ∙ append_assoc a b (c ++ d)
 
--- the line of a pair
-spells_pair : (e f : ℕ) (r : Reason) → e < 2 ^ 32 → f < 2 ^ 32 → Spells (e ∷ f ∷ []) (pair_line e f r)
-spells_pair e f r first second =
+-- the line of a pair, before another text
+pub spells_pair : (e f : ℕ) (r : Reason) (more ms : List ℕ) → e < 2 ^ 32 → f < 2 ^ 32 → Spells ms more
+    → Spells (e ∷ f ∷ ms) (pair_line e f r ++ more)
+spells_pair e f r more ms first second h =
     let end = 32 ∷ (reason_name r ++ 10 ∷ []) in
-    subst (Spells (e ∷ f ∷ [])) (sym (in_order (decimal e) (codes " -> ") (decimal f) end))
-    (spells_number e 32 (codes "-> " ++ (decimal f ++ end)) (f ∷ []) first refl
-    (spells_after (codes " -> ") (decimal f ++ end) (f ∷ []) refl
-    (spells_number f 32 (reason_name r ++ 10 ∷ []) [] second refl (reason_text r))))
+    let shape : pair_line e f r ++ more ≡ decimal e ++ (codes " -> " ++ (decimal f ++ (end ++ more))) =
+    ap (λ (t : List ℕ). t ++ more) (in_order (decimal e) (codes " -> ") (decimal f) end)
+    ∙ append_assoc (decimal e) (codes " -> " ++ (decimal f ++ end)) more
+    ∙ ap (λ (t : List ℕ). decimal e ++ (codes " -> " ++ t)) (append_assoc (decimal f) end more) in
+    subst (Spells (e ∷ f ∷ ms)) (sym shape)
+    (spells_number e 32 (codes "-> " ++ (decimal f ++ (end ++ more))) (f ∷ ms) first refl
+    (spells_after (codes " -> ") (decimal f ++ (end ++ more)) (f ∷ ms) refl
+    (spells_number f 32 ((reason_name r ++ 10 ∷ []) ++ more) ms second refl
+    (spells_after end more ms (reason_text r) h))))
 
 -- the lines of the pairs of a cycle
-pub spells_pairs : (x : Execution) (c : List ℕ) (n : ℕ) (lines : List ℕ)
+pub spells_pairs : (x : Execution) (c : List ℕ) (n : ℕ) (lines more ms : List ℕ)
     → ((i : ℕ) → i < n → (get_or c i 0 < 2 ^ 32) × (next_in_cycle c i < 2 ^ 32)) → ArePairLines x c n lines
-    → Spells (pair_numbers c n) lines
-spells_pairs x c zero lines short h = subst (Spells []) (sym h) refl
-spells_pairs x c (suc n) lines short h =
+    → Spells ms more → Spells (pair_numbers c n ++ ms) (lines ++ more)
+spells_pairs x c zero lines more ms short h rest =
+    subst (λ (t : List ℕ). Spells ms (t ++ more)) (sym h) rest
+spells_pairs x c (suc n) lines more ms short h rest =
     let last = short n (omega arith) in
-    let line : Spells (get_or c n 0 ∷ next_in_cycle c n ∷ []) h.1 =
-    subst (Spells (get_or c n 0 ∷ next_in_cycle c n ∷ [])) (sym h.3.text)
-    (spells_pair (get_or c n 0) (next_in_cycle c n) h.3.reason last.0 last.1) in
-    subst (Spells (pair_numbers c (suc n))) (sym h.4)
-    (spells_both (pair_numbers c n) (get_or c n 0 ∷ next_in_cycle c n ∷ []) h.0 h.1
-    (spells_pairs x c n h.0 (λ i low. short i (omega arith)) h.2) line)
+    let e = get_or c n 0 in
+    let f = next_in_cycle c n in
+    let line : Spells (e ∷ f ∷ ms) (h.1 ++ more) =
+    subst (λ (t : List ℕ). Spells (e ∷ f ∷ ms) (t ++ more)) (sym h.3.text)
+    (spells_pair e f h.3.reason more ms last.0 last.1 rest) in
+    subst (λ (t : List ℕ). Spells (pair_numbers c (suc n) ++ ms) (t ++ more)) (sym h.4)
+    (subst (λ (ns : List ℕ). Spells ns ((h.0 ++ h.1) ++ more))
+    (sym (append_assoc (pair_numbers c n) (e ∷ f ∷ []) ms))
+    (subst (Spells (pair_numbers c n ++ (e ∷ f ∷ ms))) (sym (append_assoc h.0 h.1 more))
+    (spells_pairs x c n h.0 (h.1 ++ more) (e ∷ f ∷ ms) (λ i low. short i (omega arith)) h.2 line)))
 
 -- the line of a row of labels
-spells_labels : (v : ℕ) (row : List ℕ) → v < 2 ^ 32 → All (λ n. n < 2 ^ 32) row → Spells (v ∷ row) (labels_line v row)
-spells_labels v row small all =
-    let line = numbers_text row ++ 10 ∷ [] in
-    let labels : Spells row line = subst (λ (ns : List ℕ). Spells ns line) (append-nil row)
-    (spells_row row [] [] all refl) in
-    let shape : labels_line v row ≡ codes "labels " ++ (decimal v ++ 58 ∷ line) =
-    append_assoc (codes "labels " ++ decimal v ++ codes ":") (numbers_text row) (10 ∷ [])
+spells_labels : (v : ℕ) (row more ms : List ℕ) → v < 2 ^ 32 → All (λ n. n < 2 ^ 32) row → Spells ms more
+    → Spells (v ∷ (row ++ ms)) (labels_line v row ++ more)
+spells_labels v row more ms small all h =
+    let line = numbers_text row ++ 10 ∷ more in
+    let labels : Spells (row ++ ms) line = spells_row row more ms all (spells_after (10 ∷ []) more ms refl h) in
+    let front = codes "labels " ++ decimal v ++ codes ":" in
+    let shape : labels_line v row ++ more ≡ codes "labels " ++ (decimal v ++ 58 ∷ line) =
+    append_assoc (front ++ numbers_text row) (10 ∷ []) more
+    ∙ append_assoc front (numbers_text row) (10 ∷ more)
     ∙ in_order (codes "labels ") (decimal v) (codes ":") line in
-    subst (Spells (v ∷ row)) (sym shape) (spells_after (codes "labels ") (decimal v ++ 58 ∷ line) (v ∷ row) refl
-    (spells_number v 58 line row small refl (spells_after (58 ∷ []) line row refl labels)))
+    subst (Spells (v ∷ (row ++ ms))) (sym shape)
+    (spells_after (codes "labels ") (decimal v ++ 58 ∷ line) (v ∷ (row ++ ms)) refl
+    (spells_number v 58 line (row ++ ms) small refl (spells_after (58 ∷ []) line (row ++ ms) refl labels)))
 
 -- the lines of the rows of labels
-pub spells_rows : (rows : List (List ℕ)) (n : ℕ) → n ≤ 2 ^ 32
-    → ((v : ℕ) → v < n → All (λ n. n < 2 ^ 32) (get_or rows v [])) → Spells (label_numbers rows n) (labels_text rows n)
-spells_rows rows zero few short = refl
-spells_rows rows (suc n) few short =
-    spells_both (label_numbers rows n) (n ∷ get_or rows n []) (labels_text rows n) (labels_line n (get_or rows n []))
-    (spells_rows rows n (omega (arith, few)) (λ v low. short v (omega arith)))
-    (spells_labels n (get_or rows n []) (omega (arith, few)) (short n (omega arith)))
+pub spells_rows : (rows : List (List ℕ)) (n : ℕ) (more ms : List ℕ) → n ≤ 2 ^ 32
+    → ((v : ℕ) → v < n → All (λ n. n < 2 ^ 32) (get_or rows v [])) → Spells ms more
+    → Spells (label_numbers rows n ++ ms) (labels_text rows n ++ more)
+spells_rows rows zero more ms few short h = h
+spells_rows rows (suc n) more ms few short h =
+    let row = get_or rows n [] in
+    let line = labels_line n row in
+    subst (λ (ns : List ℕ). Spells ns ((labels_text rows n ++ line) ++ more))
+    (sym (append_assoc (label_numbers rows n) (n ∷ row) ms))
+    (subst (Spells (label_numbers rows n ++ (n ∷ (row ++ ms)))) (sym (append_assoc (labels_text rows n) line more))
+    (spells_rows rows n (line ++ more) (n ∷ (row ++ ms)) (omega (arith, few)) (λ v low. short v (omega arith))
+    (spells_labels n row more ms (omega (arith, few)) (short n (omega arith)) h)))
 
 -- the number at a place, before those after it
 pub spelled_next : (ns ms rest : List ℕ) (i : ℕ) → i < length ns → Spells (drop i ns ++ ms) rest

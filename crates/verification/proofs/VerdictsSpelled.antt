@@ -31,7 +31,7 @@ use Rattle.long.specs.Texts.{IsLongText}
 use Rattle.verification.specs.Proof.{HasShortLabels}
 use Rattle.verification.specs.Spelled.{HasRows, HasSizes, Spells, SpellsAnswer, label_numbers, labels_after}
 use Rattle.verification.specs.Spelled.{pair_numbers}
-use Rattle.verification.proofs.Spelling.{spells_after, spells_both, spells_number, spells_pairs, spells_row}
+use Rattle.verification.proofs.Spelling.{spells_after, spells_number, spells_pairs, spells_row}
 use Rattle.verification.proofs.Spelling.{spells_rows}
 
 -- what a relation of numbers below n leads along is below n
@@ -65,23 +65,30 @@ cycle_spells : (x : Execution) (few : event_count x ≤ 16777216)
 cycle_spells x few within c pairs last ms cyclic lines h = (
   pairs ++ last,
   spells_after (10 ∷ []) (pairs ++ last) (pair_numbers c.items (length c.items) ++ ms) refl
-      (spells_both (pair_numbers c.items (length c.items)) ms pairs last
-      (spells_pairs x c.items (length c.items) pairs
-      (cycle_short (Forced x) (event_count x) few within c.items cyclic) lines) h),
+      (spells_pairs x c.items (length c.items) pairs last ms
+      (cycle_short (Forced x) (event_count x) few within c.items cyclic) lines h),
   append_assoc (codes "cycle of ") (decimal (length c.items)) (10 ∷ (pairs ++ last)),
 )
+
+-- rows with nothing after them
+all_rows : (rows : List (List ℕ)) (n : ℕ) → Spells (label_numbers rows n ++ []) (labels_text rows n ++ [])
+    → Spells (label_numbers rows n) (labels_text rows n)
+all_rows rows n h = subst (λ (ns : List ℕ). Spells ns (labels_text rows n)) (append-nil (label_numbers rows n))
+    (subst (Spells (label_numbers rows n ++ [])) (append-nil (labels_text rows n)) h)
 
 module _ (x : Execution) (is : IsRecording x) where
   -- forced pairs are pairs of events
   within : (e f : ℕ) → Forced x e f → (e < event_count x) × (f < event_count x)
   within e f forced = forced_within x is.well_formed forced.0 e f forced.1
 
-  -- the line of an order
-  order_spells : (m : Vec ℕ Global) → IsTsoOrder x m.items → SpellsAnswer (Order m) [] (order_line m.items)
-  order_spells m order = (
-    numbers_text m.items ++ 10 ∷ [],
-    spells_row m.items [] [] short refl,
-    append_assoc (codes "ordered:") (numbers_text m.items) (10 ∷ []),
+  -- the line of an order, before another text
+  pub order_spells : (m : Vec ℕ Global) (more : List ℕ) → IsTsoOrder x m.items
+      → SpellsAnswer (Order m) [] (order_line m.items ++ more)
+  order_spells m more order = (
+    numbers_text m.items ++ 10 ∷ more,
+    spells_row m.items more [] short tt,
+    append_assoc (codes "ordered:" ++ numbers_text m.items) (10 ∷ []) more
+        ∙ append_assoc (codes "ordered:") (numbers_text m.items) (10 ∷ more),
   )
     where
       short : All (λ n. n < 2 ^ 32) m.items
@@ -91,19 +98,20 @@ module _ (x : Execution) (is : IsRecording x) where
           omega (arith, is.within.few_events, in_range, get_or_default m.items k d 0 low)
 
   -- the line of an overlook
-  overlook_spells : (l s : ℕ) → Overlooks x l s → SpellsAnswer (Overlook l s) [] (overlook_line l s)
-  overlook_spells l s overlooks =
+  pub overlook_spells : (l s : ℕ) (more : List ℕ) → Overlooks x l s
+      → SpellsAnswer (Overlook l s) [] (overlook_line l s ++ more)
+  overlook_spells l s more overlooks =
       let few = is.within.few_events in
       let order = overlooks.3 in (
-        decimal l ++ (codes " store " ++ (decimal s ++ 10 ∷ [])),
-        spells_number l 32 (codes "store " ++ (decimal s ++ 10 ∷ [])) (s ∷ []) (omega (arith, few, order.1)) refl
-            (spells_after (codes " store ") (decimal s ++ 10 ∷ []) (s ∷ []) refl
-            (spells_number s 10 [] [] (omega (arith, few, order.0, order.1)) refl refl)),
-        shape (codes "overlook: load ") (decimal l) (codes " store ") (decimal s) (10 ∷ []),
+        decimal l ++ (codes " store " ++ (decimal s ++ 10 ∷ more)),
+        spells_number l 32 (codes "store " ++ (decimal s ++ 10 ∷ more)) (s ∷ []) (omega (arith, few, order.1)) refl
+            (spells_after (codes " store ") (decimal s ++ 10 ∷ more) (s ∷ []) refl
+            (spells_number s 10 more [] (omega (arith, few, order.0, order.1)) refl tt)),
+        shape (codes "overlook: load ") (decimal l) (codes " store ") (decimal s) (10 ∷ []) more,
       )
     where
-      shape : (a b c d e : List ℕ) → a ++ b ++ c ++ d ++ e ≡ a ++ (b ++ (c ++ (d ++ e)))
-      shape a b c d e = simp append_assoc
+      shape : (a b c d e f : List ℕ) → (a ++ b ++ c ++ d ++ e) ++ f ≡ a ++ (b ++ (c ++ (d ++ (e ++ f))))
+      shape a b c d e f = simp append_assoc
 
   -- what the text of a verdict that holds spells
   pub record IsSpelled (v : Verdict) (text : List ℕ) : Type 0 where
@@ -114,12 +122,14 @@ module _ (x : Execution) (is : IsRecording x) where
   pub verdict_spelled : (v : Verdict) (text : List ℕ) → event_count x ≤ 512 → IsVerdictText x v text → Verifies x v
       → HasShortLabels v → IsSpelled v text
   verdict_spelled (verdict.Ordered m) text few printed verified short = record {
-    spelled = subst (SpellsAnswer (Order m) []) (sym printed) (order_spells m verified);
+    spelled = subst (SpellsAnswer (Order m) []) (append-nil (order_line m.items) ∙ sym printed)
+        (order_spells m [] verified);
     sizes = length_total (event_count x) m.items verified.total;
     rows = tt;
   }
   verdict_spelled (verdict.Overlook l s) text few printed verified short = record {
-    spelled = subst (SpellsAnswer (Overlook l s) []) (sym printed) (overlook_spells l s verified);
+    spelled = subst (SpellsAnswer (Overlook l s) []) (append-nil (overlook_line l s) ∙ sym printed)
+        (overlook_spells l s [] verified);
     sizes = tt;
     rows = tt;
   }
@@ -132,8 +142,8 @@ module _ (x : Execution) (is : IsRecording x) where
         spelled = subst (SpellsAnswer (Cycle c.cycle) (label_numbers rows (length rows))) (sym printed.whole)
             (cycle_spells x is.within.few_events within c.cycle printed.pairs (labels_text rows (length rows))
             (label_numbers rows (length rows)) certified.cyclic printed.lines
-            (spells_rows rows (length rows) (omega (arith, few, certified.one_each))
-            (λ v low k d inside. omega (arith, short v k d inside))));
+            (all_rows rows (length rows) (spells_rows rows (length rows) [] [] (omega (arith, few, certified.one_each))
+            (λ v low k d inside. omega (arith, short v k d inside)) tt)));
         sizes = omega (
           arith,
           other.2,
@@ -180,11 +190,13 @@ module _ (x : Execution) (is : IsRecording x) where
 
   pub answer_spelled : (a : LongAnswer) (text : List ℕ) → IsLongText x a text → IsWitness x a → IsLongSpelled a text
   answer_spelled (Order m) text printed witness = record {
-    spelled = subst (SpellsAnswer (Order m) []) (sym printed) (order_spells m witness);
+    spelled = subst (SpellsAnswer (Order m) []) (append-nil (order_line m.items) ∙ sym printed)
+        (order_spells m [] witness);
     sizes = length_total (event_count x) m.items witness.total;
   }
   answer_spelled (Overlook l s) text printed witness = record {
-    spelled = subst (SpellsAnswer (Overlook l s) []) (sym printed) (overlook_spells l s witness);
+    spelled = subst (SpellsAnswer (Overlook l s) []) (append-nil (overlook_line l s) ∙ sym printed)
+        (overlook_spells l s [] witness);
     sizes = tt;
   }
   answer_spelled (Cycle c) text printed witness =
@@ -192,7 +204,7 @@ module _ (x : Execution) (is : IsRecording x) where
       let whole : text ≡ head ++ 10 ∷ (printed.pairs ++ []) = printed.whole
       ∙ ap (λ (t : List ℕ). head ++ 10 ∷ t) (sym (append-nil printed.pairs)) in record {
         spelled = subst (SpellsAnswer (Cycle c) []) (sym whole)
-            (cycle_spells x is.within.few_events within c printed.pairs [] [] witness printed.lines refl);
+            (cycle_spells x is.within.few_events within c printed.pairs [] [] witness printed.lines tt);
         sizes = omega (
           arith,
           lines_size c.items (length c.items) printed.pairs printed.lines,

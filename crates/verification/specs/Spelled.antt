@@ -15,9 +15,9 @@ use Rattle.verification.specs.Proof.{AreRows}
 abbrev pub HasNoDigit : List ℕ → Type 0
 HasNoDigit text = list_any is_digit text ≡ false
 
--- numbers of 32 bits, each between bytes that are no digits
+-- a text begins with numbers of 32 bits, each between bytes that are no digits, whatever stands after them
 abbrev pub Spells : List ℕ → List ℕ → Type 0
-Spells [] text = HasNoDigit text
+Spells [] text = ⊤
 Spells (n ∷ ns) text = (gap : List ℕ) × (b : ℕ) × (more : List ℕ) × HasNoDigit gap × (n < 2 ^ 32)
     × (is_digit b ≡ false) × Spells ns (b ∷ more) × (text ≡ gap ++ (decimal n ++ b ∷ more))
 
