@@ -7,7 +7,7 @@ use Rattle.long.specs.declared.answer.LongAnswer.TheVariants.{Order, Overlook, C
 use Rattle.verification.specs.Spelled.{HasSizes, IsSameAnswer, Spells, SpellsAnswer, pair_numbers}
 
 -- where two texts are one, so are their bytes at a place
-one_byte : (s t : List ℕ) (i : ℕ) → s ≡ t → get_or s i 0 ≡ get_or t i 0
+pub one_byte : (s t : List ℕ) (i : ℕ) → s ≡ t → get_or s i 0 ≡ get_or t i 0
 one_byte s t i is = ap (λ (u : List ℕ). get_or u i 0) is
 
 -- what begins as an order spells one

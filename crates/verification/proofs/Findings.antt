@@ -1,24 +1,23 @@
 -- What is answered to findings.
-use Rattle.std.proofs.Common.{◌≡◌, ◌↔◌, ◌++◌, ℕ, List}
-use Rattle.std.specs.Prelude.{codes}
-use Rattle.verdicts.specs.declared.outcome.Outcome.TheVariants.{Violation}
+use Rattle.std.proofs.Common.{◌≡◌, ◌↔◌, ◌++◌, ◌∷◌, [], refl}
+use Rattle.std.specs.Prelude.{codes, decimal}
 use Rattle.verdicts.specs.declared.printed.Answer.{Answer}
 use Rattle.verification.specs.declared.text_check.TextCheck.{TextCheck}
-use Rattle.verification.specs.declared.text_check.TextCheck.TheVariants.{Holds}
-use Rattle.verification.specs.Checked.{IsCheckAnswer}
+use Rattle.verification.specs.declared.text_check.TextCheck.TheVariants.{Holds, FailsAt, EndsEarly}
+use Rattle.verification.specs.Checked.{AnswersCheck, IsCheckAnswer}
 
--- that a text does not hold
-pub fails_answer : (check : TextCheck) (answer : Answer) (rest : List ℕ) → (check ≡ Holds → ⊥)
-    → answer.outcome ≡ Violation → answer.text.items ≡ codes "does not hold" ++ rest
-    → IsCheckAnswer (check ≡ Holds) answer
-fails_answer check answer rest other violation printed = record {
-  holds = λ is. absurd (other is);
-  fails = λ no. (violation, (rest, printed));
+-- the answer to what is found of a text says whether it is such a proof
+pub says_proof : (P : Type 0) (check : TextCheck) (answer : Answer) → (check ≡ Holds) ↔ P → AnswersCheck check answer
+    → IsCheckAnswer P answer
+says_proof P Holds answer exact is = record {
+  holds = λ p. (is.outcome, is.printed);
+  fails = λ no. absurd (no (exact.0 refl));
 }
-
--- the answer by a check is that by what the check decides
-pub decided_answer : (A B : Type 0) (answer : Answer) → (A ↔ B) → IsCheckAnswer A answer → IsCheckAnswer B answer
-decided_answer A B answer same is = record {
-  holds = λ b. is.holds (same.1 b);
-  fails = λ no. is.fails (λ a. no (same.0 a));
+says_proof P (FailsAt n) answer exact is = record {
+  holds = λ p. let clash : FailsAt n ≡ Holds = exact.1 p in absurd cc;
+  fails = λ no. (is.outcome, (codes ": line " ++ (decimal n ++ 10 ∷ []), is.printed));
+}
+says_proof P EndsEarly answer exact is = record {
+  holds = λ p. let clash : EndsEarly ≡ Holds = exact.1 p in absurd cc;
+  fails = λ no. (is.outcome, (10 ∷ [], is.printed));
 }

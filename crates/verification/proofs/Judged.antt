@@ -1,7 +1,7 @@
 -- The text of the verdict on a recording is a proof.
 use Rattle.std.proofs.Common.{◌≡◌, ◌≢◌, ◌<◌, ◌≤◌, ◌↔◌, ℕ, List, [], inl, inr, length, get_or, arith, refl, sym, subst}
-use Rattle.std.specs.Prelude.{Result, IfOk, Option, Some, None, MatchOption}
-use Rattle.std.proofs.lemmas.Bool.{cases_lt}
+use Rattle.std.specs.Prelude.{Bool, false, IsTrue, Result, IfOk, Option, Some, None, MatchOption}
+use Rattle.std.proofs.lemmas.Bool.{cases_lt, false≢true}
 use Rattle.std.proofs.lemmas.List.{get_or_default, get_or_past}
 use Rattle.std.proofs.lemmas.Result.{IfOk-weaker}
 use Rattle.common.specs.declared.limits.TheConstants.{MAX_EVENTS}
@@ -143,8 +143,12 @@ module _ (x : Execution) (text : List ℕ) where
     λ p. same_long_text x text p.answer a (rw some at (reads p.answer p.printed p.witness)) p.printed,
   )
 
--- what a check decides, it decides of what is the same
-pub decides_same : (P Q : Type 0) → P ↔ Q → (r : Result TextCheck OutOfMemory) → IfOk r (λ f. (f ≡ Holds) ↔ P)
-    → IfOk r (λ f. (f ≡ Holds) ↔ Q)
-decides_same P Q same r check = IfOk-weaker r _ _
-    (λ f says. (λ is. same.0 (says.0 is), λ q. says.1 (same.1 q))) check
+-- a test that fails is one of what never holds
+pub never_holds : (P : Type 0) → (P → ⊥) → IsTrue false ↔ P
+never_holds P never = (λ is. absurd (false≢true is), λ p. absurd (never p))
+
+-- what is tested is tested of what is the same
+pub tests_same : (P Q : Type 0) → P ↔ Q → (r : Result Bool OutOfMemory) → IfOk r (λ is. IsTrue is ↔ P)
+    → IfOk r (λ is. IsTrue is ↔ Q)
+tests_same P Q same r test = IfOk-weaker r _ _
+    (λ is says. (λ yes. same.0 (says.0 yes), λ q. says.1 (same.1 q))) test

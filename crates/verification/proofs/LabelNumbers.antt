@@ -35,21 +35,27 @@ pub record AreLeft (lists rows : List (List ℕ)) (n i : ℕ) (text : List ℕ) 
   pub whole : label_numbers rows n ≡ label_numbers rows i ++ tail
   pub spelled : Spells tail text
 
--- what is left begins with the next row
-pub next_row : (lists rows : List (List ℕ)) (n i : ℕ) (text : List ℕ) → i < n → AreLeft lists rows n i text
+-- the numbers after those of i rows begin with the next row
+pub row_next : (rows : List (List ℕ)) (n i : ℕ) (tail text : List ℕ) → i < n
+    → label_numbers rows n ≡ label_numbers rows i ++ tail → Spells tail text
     → (back : List ℕ) × Spells ((i ∷ get_or rows i []) ++ back) text
     × (label_numbers rows n ≡ label_numbers rows (i + 1) ++ back)
-next_row lists rows n i text low left =
+row_next rows n i tail text low whole spelled =
     let s = labels_split rows n i low in
     let row = i ∷ get_or rows i [] in
-    let here : left.tail ≡ row ++ s.0 = append_cancel_left (label_numbers rows i) left.tail (row ++ s.0)
-    (sym left.whole ∙ s.1) in
+    let here : tail ≡ row ++ s.0 = append_cancel_left (label_numbers rows i) tail (row ++ s.0) (sym whole ∙ s.1) in
     let next : suc i ≡ i + 1 = omega arith in (
       s.0,
-      subst (λ (ns : List ℕ). Spells ns text) here left.spelled,
+      subst (λ (ns : List ℕ). Spells ns text) here spelled,
       s.1 ∙ sym (append_assoc (label_numbers rows i) row s.0)
           ∙ ap (λ (k : ℕ). label_numbers rows k ++ s.0) next,
     )
+
+-- so does what is left
+pub next_row : (lists rows : List (List ℕ)) (n i : ℕ) (text : List ℕ) → i < n → AreLeft lists rows n i text
+    → (back : List ℕ) × Spells ((i ∷ get_or rows i []) ++ back) text
+    × (label_numbers rows n ≡ label_numbers rows (i + 1) ++ back)
+next_row lists rows n i text low left = row_next rows n i left.tail text low left.whole left.spelled
 
 -- the labels of one row more
 pub lists_push : (rows : List (Vec ℕ Global)) (row : Vec ℕ Global)

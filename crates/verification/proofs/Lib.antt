@@ -6,3 +6,12 @@ pub mod VerdictsSpelled
 pub mod OneText
 pub mod Judged
 pub mod Findings
+pub mod Differences
+pub mod PairsHeld
+pub mod CycleHeld
+pub mod RowsHeld
+pub mod Lines
+pub mod LineHeld
+pub mod LinesHeld
+pub mod LinesGrow
+pub mod ProofLines

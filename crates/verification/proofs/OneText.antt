@@ -20,10 +20,11 @@ use Rattle.long.specs.declared.answer.LongAnswer.TheVariants.{Order, Overlook, C
 use Rattle.long.specs.Answer.{IsWitness}
 use Rattle.long.specs.Texts.{ArePairs, IsLongText}
 use Rattle.long.proofs.Lists.{cycle_of_items}
+use Rattle.verification.specs.Faults.{IsOneLine}
 use Rattle.verification.specs.Spelled.{IsSameAnswer, IsSameVerdict}
 
 -- a pair has one first reason
-one_reason : (x : Execution) (e f : ℕ) (q r : Reason) → IsReason x e f (Some q) → IsReason x e f (Some r) → q ≡ r
+pub one_reason : (x : Execution) (e f : ℕ) (q r : Reason) → IsReason x e f (Some q) → IsReason x e f (Some r) → q ≡ r
 one_reason x e f Po Po a b = refl
 one_reason x e f Po Wo a b = absurd (b.1 a)
 one_reason x e f Po Rf a b = absurd (b.1 a)
@@ -129,6 +130,9 @@ pub same_long_text : (x : Execution) (text : List ℕ) (a b : LongAnswer) → Is
 same_long_text x text = by_events (λ (a : LongAnswer). IsLongText x a text)
     (λ m k is p. subst (λ (o : List ℕ). text ≡ order_line o) is p)
     (λ l s k t one other p. rw (sym one, sym other) p) (λ c d is p. subst (λ (e : List ℕ). ArePairs x e text) is p)
+
+pub same_one_line : (a b : LongAnswer) → IsSameAnswer a b → IsOneLine a → IsOneLine b
+same_one_line = by_events IsOneLine (λ m k is one. tt) (λ l s k t first second one. tt) (λ c d is one. absurd one)
 
 -- a pair with a first reason is forced
 pub reason_forces : (x : Execution) (e f : ℕ) (r : Reason) → IsReason x e f (Some r) → Forced x e f

@@ -1,6 +1,6 @@
 -- What texts spell.
 use Rattle.std.proofs.Common.{◌≡◌, ◌<◌, ◌≤◌, ◌^◌, ◌+◌, ◌++◌, ◌∷◌, [], ℕ, zero, suc, List, true, false, inl, inr}
-use Rattle.std.proofs.Common.{arith, ap, refl, sym, subst, ◌∙◌, append_assoc, append-nil, codes, decimal, drop}
+use Rattle.std.proofs.Common.{arith, ap, refl, sym, subst, ◌∙◌, append_assoc, codes, decimal, drop}
 use Rattle.std.proofs.Common.{drop-cons, get_or, length, length-append, take, ◌-◌, Some}
 use Rattle.std.specs.List.{All}
 use Rattle.std.proofs.lemmas.Bool.{cases_lt, false≢true}
@@ -97,7 +97,7 @@ spells_row (n ∷ ns) more ms all h =
     )
 
 -- the end of the line of a pair has no digit
-reason_text : (r : Reason) → HasNoDigit (32 ∷ (reason_name r ++ 10 ∷ []))
+pub reason_text : (r : Reason) → HasNoDigit (32 ∷ (reason_name r ++ 10 ∷ []))
 reason_text Po = refl
 reason_text Wo = refl
 reason_text Rf = refl
@@ -108,19 +108,26 @@ in_order : (a b c d : List ℕ) → a ++ b ++ c ++ d ≡ a ++ (b ++ (c ++ d))
 in_order a b c d = append_assoc (a ++ b) c d ∙ append_assoc a b (c ++ d)
 
 -- the line of a pair, before another text
-pub spells_pair : (e f : ℕ) (r : Reason) (more ms : List ℕ) → e < 2 ^ 32 → f < 2 ^ 32 → Spells ms more
-    → Spells (e ∷ f ∷ ms) (pair_line e f r ++ more)
-spells_pair e f r more ms first second h =
+pub pair_shape : (e f : ℕ) (r : Reason) (more : List ℕ)
+    → pair_line e f r ++ more ≡ decimal e ++ (codes " -> " ++ (decimal f ++ 32 ∷ (reason_name r ++ 10 ∷ more)))
+pair_shape e f r more =
     let end = 32 ∷ (reason_name r ++ 10 ∷ []) in
-    let shape : pair_line e f r ++ more ≡ decimal e ++ (codes " -> " ++ (decimal f ++ (end ++ more))) =
     ap (λ (t : List ℕ). t ++ more) (in_order (decimal e) (codes " -> ") (decimal f) end)
     ∙ append_assoc (decimal e) (codes " -> " ++ (decimal f ++ end)) more
-    ∙ ap (λ (t : List ℕ). decimal e ++ (codes " -> " ++ t)) (append_assoc (decimal f) end more) in
-    subst (Spells (e ∷ f ∷ ms)) (sym shape)
-    (spells_number e 32 (codes "-> " ++ (decimal f ++ (end ++ more))) (f ∷ ms) first refl
-    (spells_after (codes " -> ") (decimal f ++ (end ++ more)) (f ∷ ms) refl
-    (spells_number f 32 ((reason_name r ++ 10 ∷ []) ++ more) ms second refl
-    (spells_after end more ms (reason_text r) h))))
+    ∙ ap (λ (t : List ℕ). decimal e ++ (codes " -> " ++ t))
+    (append_assoc (decimal f) end more
+    ∙ ap (λ (t : List ℕ). decimal f ++ 32 ∷ t) (append_assoc (reason_name r) (10 ∷ []) more))
+
+spells_pair : (e f : ℕ) (r : Reason) (more ms : List ℕ) → e < 2 ^ 32 → f < 2 ^ 32 → Spells ms more
+    → Spells (e ∷ f ∷ ms) (pair_line e f r ++ more)
+spells_pair e f r more ms first second h =
+    let rest = decimal f ++ 32 ∷ (reason_name r ++ 10 ∷ more) in
+    subst (Spells (e ∷ f ∷ ms)) (sym (pair_shape e f r more))
+    (spells_number e 32 (codes "-> " ++ rest) (f ∷ ms) first refl
+    (spells_after (codes " -> ") rest (f ∷ ms) refl
+    (spells_number f 32 (reason_name r ++ 10 ∷ more) ms second refl
+    (subst (Spells ms) (append_assoc (32 ∷ reason_name r) (10 ∷ []) more)
+    (spells_after (32 ∷ (reason_name r ++ 10 ∷ [])) more ms (reason_text r) h)))))
 
 -- the lines of the pairs of a cycle
 pub spells_pairs : (x : Execution) (c : List ℕ) (n : ℕ) (lines more ms : List ℕ)

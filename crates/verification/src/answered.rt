@@ -1,10 +1,10 @@
 //! The answer to a text that is checked.
 
-ghost use Rattle.std.specs.Prelude.{◌≡◌, ◌≤◌, IfOk};
+ghost use Rattle.std.specs.Prelude.{◌≤◌, IfOk};
 ghost use Rattle.common.specs.declared.limits.TheConstants.{MAX_EVENTS};
 ghost use Rattle.recording.specs.Execution.{event_count};
-ghost use Rattle.verification.specs.declared.text_check.TextCheck.TheVariants.{Holds};
-ghost use Rattle.verification.specs.Checked.{IsCheckAnswer};
+ghost use Rattle.verification.specs.Checked.{AnswersCheck, AnswersLine, IsCheckAnswer};
+ghost use Rattle.verification.specs.Faults.{LinesHold, LongLinesHold, longest_cycle};
 ghost use Rattle.verification.specs.Proof.{IsLongProof, IsProof};
 
 use crate::text::{check_text, check_text_alone};
@@ -18,7 +18,7 @@ use verdicts::{Answer, Outcome};
 
 /// The answer to a text: that it holds, or that it does not, with the line at fault where there is one.
 fn text_check_answer(alloc: Global, check: TextCheck) -> Result<Answer, AllocError>
-    ensures { IfOk result (IsCheckAnswer (check ≡ Holds)) }
+    ensures { IfOk result (AnswersCheck check) }
 {
     match check {
         TextCheck::Holds => Answer::of(alloc, Outcome::Done, "holds\n"),
@@ -42,7 +42,8 @@ pub fn check_answer<R: Threads + Sync>(
     workers: usize,
 ) -> Result<Answer, OutOfMemory>
     requires few { event_count recording.now ≤ MAX_EVENTS }
-    ensures { IfOk result (IsCheckAnswer (IsProof recording.now text.now)) }
+    ensures proof { IfOk result (IsCheckAnswer (IsProof recording.now text.now)) }
+    ensures line { IfOk result (AnswersLine (LinesHold recording.now) text.now) }
 {
     let check = check_text(rt, alloc, recording, text, workers)?;
     Ok(text_check_answer(alloc, check)?)
@@ -55,7 +56,8 @@ pub fn check_answer_alone(
     text: &[u8],
 ) -> Result<Answer, OutOfMemory>
     requires few { event_count recording.now ≤ MAX_EVENTS }
-    ensures { IfOk result (IsCheckAnswer (IsProof recording.now text.now)) }
+    ensures proof { IfOk result (IsCheckAnswer (IsProof recording.now text.now)) }
+    ensures line { IfOk result (AnswersLine (LinesHold recording.now) text.now) }
 {
     let check = check_text_alone(alloc, recording, text)?;
     Ok(text_check_answer(alloc, check)?)
@@ -67,7 +69,8 @@ pub fn long_check_answer(
     recording: &Recording,
     text: &[u8],
 ) -> Result<Answer, OutOfMemory>
-    ensures { IfOk result (IsCheckAnswer (IsLongProof recording.now text.now)) }
+    ensures proof { IfOk result (IsCheckAnswer (IsLongProof recording.now text.now)) }
+    ensures line { IfOk result (AnswersLine (LongLinesHold recording.now (longest_cycle text.now)) text.now) }
 {
     let check = check_long_text(alloc, recording, text)?;
     Ok(text_check_answer(alloc, check)?)

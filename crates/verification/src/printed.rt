@@ -1,9 +1,9 @@
 //! A text beside what is printed.
 
-ghost use Rattle.std.specs.Prelude.{◌≡◌, ◌≢◌, ◌↔◌, IfOk};
+ghost use Rattle.std.specs.Prelude.{◌≡◌, ◌↔◌, IfOk, IsTrue};
 ghost use Rattle.verdicts.specs.VerdictText.{IsVerdictText};
 ghost use Rattle.verdicts.specs.Verified.{Verifies};
-ghost use Rattle.verification.specs.declared.text_check.TextCheck.TheVariants.{Holds};
+ghost use Rattle.verification.specs.Held.{IsFirstDifference};
 
 use crate::text_check::TextCheck;
 use common::OutOfMemory;
@@ -13,7 +13,7 @@ use verdicts::{Verdict, verdict_text};
 
 /// The first line of a text that is none of another; or that more lines are due, where all its lines are.
 pub(crate) fn first_difference(text: &[u8], printed: &[u8]) -> TextCheck
-    ensures { result ≢ Holds }
+    ensures { IsFirstDifference text.now printed.now result }
 {
     let mut line = 1;
     let mut begins = true;
@@ -33,26 +33,23 @@ pub(crate) fn first_difference(text: &[u8], printed: &[u8]) -> TextCheck
     }
 }
 
-/// Whether a text is what is printed, or else the first line that differs.
-pub(crate) fn compare(text: &[u8], printed: &[u8]) -> TextCheck
-    ensures { (result ≡ Holds) ↔ (text.now ≡ printed.now) }
+/// Whether a text is what is printed.
+pub(crate) fn is_printed(text: &[u8], printed: &[u8]) -> bool
+    ensures { IsTrue result ↔ (text.now ≡ printed.now) }
 {
-    if text == printed {
-        return TextCheck::Holds;
-    }
-    first_difference(text, printed)
+    text == printed
 }
 
-/// Whether a text is that of a verdict that holds, or else the first line that differs. Fails only if out of memory.
-pub(crate) fn compare_verdict(
+/// Whether a text is that of a verdict that holds. Fails only if out of memory.
+pub(crate) fn is_verdict_text(
     alloc: Global,
     recording: &Recording,
     text: &[u8],
     verdict: &Verdict,
-) -> Result<TextCheck, OutOfMemory>
+) -> Result<bool, OutOfMemory>
     requires { Verifies recording.now verdict.now }
-    ensures { IfOk result (λ f. (f ≡ Holds) ↔ IsVerdictText recording.now verdict.now text.now) }
+    ensures { IfOk result (λ is. IsTrue is ↔ IsVerdictText recording.now verdict.now text.now) }
 {
     let printed = verdict_text(alloc, recording, verdict)?;
-    Ok(compare(text, &printed))
+    Ok(is_printed(text, &printed))
 }

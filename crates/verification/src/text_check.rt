@@ -5,9 +5,8 @@
 pub enum TextCheck {
     /// It is.
     Holds,
-    /// It is not: this line, counted from 1, is the first that differs from what is printed of a verdict with the
-    /// numbers of the text, as far as they hold.
+    /// It is not: this line, counted from 1, is the first that does not hold after those before it.
     FailsAt(usize),
-    /// It is not: each line may stand in such a text, and more lines are due.
+    /// It is not: all its lines hold, and more are due.
     EndsEarly,
 }

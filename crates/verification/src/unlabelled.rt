@@ -7,12 +7,13 @@ ghost use Rattle.long.specs.Answer.{IsWitness};
 ghost use Rattle.long.specs.Texts.{IsLongText};
 ghost use Rattle.long.specs.declared.answer.LongAnswer.{LongAnswer as Given};
 ghost use Rattle.verification.specs.declared.text_check.TextCheck.TheVariants.{Holds};
+ghost use Rattle.verification.specs.Faults.{LongLinesHold, NamesFault, longest_cycle};
 ghost use Rattle.verification.specs.Proof.{IsLongProof, IsTextOfAnswer};
 ghost use Rattle.verification.specs.Spelled.{IsSameAnswer};
 
 use crate::fault::long_fault;
 use crate::law::every_answer_holds;
-use crate::printed::compare;
+use crate::printed::is_printed;
 use crate::reading::read_answer;
 use crate::text_check::TextCheck;
 use common::{EventId, OutOfMemory};
@@ -51,7 +52,7 @@ fn is_cycle(places: &Places<'_>, cycle: &[EventId]) -> bool
 }
 
 /// Whether an answer holds of the recording with these places.
-fn is_witness(
+pub(crate) fn is_witness(
     alloc: Global,
     recording: &Recording,
     places: &Places<'_>,
@@ -68,7 +69,7 @@ fn is_witness(
 }
 
 /// Adds the text of an answer that holds of the recording with these places.
-fn put_answer(
+pub(crate) fn put_answer(
     out: &mut Vec<u8>,
     places: &Places<'_>,
     answer: &LongAnswer,
@@ -88,25 +89,45 @@ fn put_answer(
     }
 }
 
-/// Whether a text is that of an answer that holds, or else the first line that differs.
-fn compare_answer(
+/// Whether a text is that of an answer that holds.
+fn is_answer_text(
     alloc: Global,
     places: &Places<'_>,
     text: &[u8],
     answer: &LongAnswer,
-) -> Result<TextCheck, OutOfMemory>
+) -> Result<bool, OutOfMemory>
     requires { IsWitness places.now answer.now }
-    ensures { IfOk result (λ f. (f ≡ Holds) ↔ IsLongText places.now answer.now text.now) }
+    ensures { IfOk result (λ is. IsTrue is ↔ IsLongText places.now answer.now text.now) }
 {
     let mut printed = Vec::new(alloc);
     put_answer(&mut printed, places, answer)?;
-    Ok(compare(text, &printed))
+    Ok(is_printed(text, &printed))
+}
+
+/// Whether a text is a proof without labels.
+fn is_long_proof(
+    alloc: Global,
+    recording: &Recording,
+    places: &Places<'_>,
+    text: &[u8],
+) -> Result<bool, OutOfMemory>
+    requires { places.now ≡ recording.now }
+    ensures { IfOk result (λ is. IsTrue is ↔ IsLongProof recording.now text.now) }
+{
+    let Some(answer) = read_long(alloc, recording, text)? else {
+        return Ok(false);
+    };
+    let holds = is_witness(alloc, recording, places, &answer)?;
+    if !holds {
+        return Ok(false);
+    }
+    is_answer_text(alloc, places, text, &answer)
 }
 
 /// Whether a text is what a recording of any length has, whoever wrote it: the line of any memory order of TSO, of any
 /// read that overlooks a store, or any cycle of forced pairs, each with its first reason, whatever its length, without
-/// labels. Else the first line that differs from what is printed of an answer with the numbers of the text, as far as
-/// they hold. Any bytes will do. It does not block. Fails only if out of memory.
+/// labels. Else the first line that does not hold after those before it, which is line 1 where a cycle is longer than
+/// what is left of the text. Any bytes will do. It does not block. Fails only if out of memory.
 pub fn check_long_text(
     alloc: Global,
     recording: &Recording,
@@ -114,15 +135,13 @@ pub fn check_long_text(
 ) -> Result<TextCheck, OutOfMemory>
     ensures exact { IfOk result (λ f. (f ≡ Holds) ↔ IsLongProof recording.now text.now) }
     ensures judged { IfOk result (λ f. IsTextOfAnswer recording.now text.now → f ≡ Holds) }
+    ensures line { IfOk result (NamesFault (LongLinesHold recording.now (longest_cycle text.now)) text.now) }
 {
     every_answer_holds();
     let places = Places::of(alloc, recording)?;
-    let Some(answer) = read_long(alloc, recording, text)? else {
-        return long_fault(alloc, &places, text);
-    };
-    let holds = is_witness(alloc, recording, &places, &answer)?;
-    if !holds {
-        return long_fault(alloc, &places, text);
+    let is_proof = is_long_proof(alloc, recording, &places, text)?;
+    if is_proof {
+        return Ok(TextCheck::Holds);
     }
-    compare_answer(alloc, &places, text, &answer)
+    long_fault(alloc, recording, &places, text)
 }
