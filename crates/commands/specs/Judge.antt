@@ -10,7 +10,8 @@ use Rattle.recorder.specs.Reading.{IsReadingResult}
 use Rattle.verdicts.specs.declared.outcome.Outcome.TheVariants.{Refused}
 use Rattle.verdicts.specs.declared.printed.Answer.{Answer}
 use Rattle.report.specs.Answer.{IsAnswerOf, IsLongAnswerOf}
-use Rattle.verification.specs.Checked.{IsCheckAnswer}
+use Rattle.verification.specs.Checked.{AnswersLine, IsCheckAnswer}
+use Rattle.verification.specs.Faults.{LinesHold, LongLinesHold, longest_cycle}
 use Rattle.verification.specs.Proof.{IsLongProof, IsProof}
 use Rattle.inputs.specs.declared.command_stop.CommandStop.{CommandStop}
 use Rattle.inputs.specs.Inputs.{Inputs, IsInputError, OfBytes}
@@ -36,10 +37,20 @@ abbrev pub IsProofOf : RecordingSize → Execution → List ℕ → Type 0
 IsProofOf Short x text = IsProof x text
 IsProofOf Long x text = IsLongProof x text
 
+-- lines hold of a short recording, or, as lines of this text, of a long one
+abbrev pub HoldLines : RecordingSize → Execution → List ℕ → List ℕ → Type 0
+HoldLines Short x text = LinesHold x
+HoldLines Long x text = LongLinesHold x (longest_cycle text)
+
+-- the answer to a text of a recording of this size: whether it is a proof, and else which line is at fault
+pub record IsTextAnswer (size : RecordingSize) (x : Execution) (text : List ℕ) (answer : Answer) : Type 0 where
+  pub proof : IsCheckAnswer (IsProofOf size x text) answer
+  pub line : AnswersLine (HoldLines size x text) text answer
+
 -- the answer to the text of the second input, of the recording of the first
 abbrev pub IsVerified : Inputs → VerifyOptions → Answer → Type 0
 IsVerified inputs o answer = OfRecording inputs (string_bytes o.recording) o.size
-    (λ x. OfBytes inputs (string_bytes o.verdict) (λ text. IsCheckAnswer (IsProofOf o.size x text) answer))
+    (λ x. OfBytes inputs (string_bytes o.verdict) (λ text. IsTextAnswer o.size x text answer))
 
 -- why a text is not checked: the recording is refused or isn't read, or the text isn't
 abbrev pub IsVerifyStop : Inputs → VerifyOptions → CommandStop → Type 0

@@ -2,8 +2,7 @@
 ghost use Rattle.std.specs.Prelude.{◌∷◌, [], IfErr, IfOk, string_bytes};
 ghost use Rattle.inputs.specs.Inputs.{ReadsNamed};
 ghost use Rattle.recording.specs.Recording.{IsRecordingWithin};
-ghost use Rattle.verification.specs.Checked.{IsCheckAnswer};
-ghost use Rattle.commands.specs.Judge.{IsProofOf, IsVerified, IsVerifyStop};
+ghost use Rattle.commands.specs.Judge.{IsTextAnswer, IsVerified, IsVerifyStop};
 
 use command_line::VerifyOptions;
 use common::OutOfMemory;
@@ -25,7 +24,7 @@ fn checked<R: Threads + Sync>(
     text: &[u8],
 ) -> Result<Answer, OutOfMemory>
     requires { IsRecordingWithin options.now.size recording.now }
-    ensures { IfOk result (IsCheckAnswer (IsProofOf options.now.size recording.now text.now)) }
+    ensures { IfOk result (IsTextAnswer options.now.size recording.now text.now) }
 {
     match options.size {
         RecordingSize::Short => check_answer(rt, alloc, recording, text, options.workers),
