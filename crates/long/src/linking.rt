@@ -154,9 +154,9 @@ impl Linked {
         Ok(())
     }
 
-    /// Puts the forced pairs of which an event is the second, but for those of writes that it is next to and of reads
-    /// that it is newer for. Given are the first event of its core, and the last before it that is no plain load, and
-    /// no plain store, where there are such.
+    /// Puts the forced pairs of which an event is the second, but for those of writes that it is next to and of reads that
+    /// it is newer for. Given are the first event of its core, and the last before it that is no plain load, and no plain
+    /// store, where there are such.
     fn put_before(
         &mut self,
         places: &Places<'_>,
