@@ -127,6 +127,7 @@ fn take_fields(rest: &mut Cursor<'_>) -> Option<Fields>
 }
 
 /// An event with its keys in any order.
+#[inline(never)]
 fn take_any(rest: &mut Cursor<'_>) -> Option<Event>
     ensures { IfSome result (λ e. (depth : ℕ)
         → GivesValue clipped_event (suc depth) (value_tokens rest.old) e (later_tokens rest.new)) }
@@ -144,10 +145,10 @@ pub(crate) fn take_event(rest: &mut Cursor<'_>) -> Option<Event>
         → GivesValue clipped_event (suc depth) (value_tokens rest.old) e (later_tokens rest.new)) }
 {
     skip_one(rest);
-    let whole = rest.rest();
-    if let Some(event) = take_usual(rest) {
+    let mut usual = Cursor::new(rest.rest());
+    if let Some(event) = take_usual(&mut usual) {
+        *rest = Cursor::new(usual.rest());
         return Some(event);
     }
-    *rest = Cursor::new(whole);
     take_any(rest)
 }

@@ -1,6 +1,6 @@
-use Rattle.std.proofs.Common.{ap, List, subst, suc}
+use Rattle.std.proofs.Common.{◌∙◌, ap, List, subst, suc}
 use Rattle.json.specs.Token.{Token}
-use Rattle.json.specs.Lex.{punctuate, after_comma}
+use Rattle.json.specs.Lex.{lex, between, punctuate, after_comma}
 use Rattle.recorder.specs.Clipped.{clipped_event}
 use Rattle.recorder.specs.ByTokens.{GivesValue, later_tokens}
 use Rattle.recorder.proofs.UsualEvents.{usual_gives}
@@ -8,7 +8,8 @@ use Rattle.recorder.proofs.plain.events.take_event.Goals as goal
 
 pub returns-in-Some : goal.returns-in-Some
 returns-in-Some c depth =
-    let later = later_tokens c.take_usual.new.rest in
-    subst (λ (ts : List Token). GivesValue clipped_event (suc depth) ts c.in-Some.event later)
-    (ap (punctuate after_comma) c.skip_one.ensures)
-    (usual_gives depth c.skip_one.new.rest c.take_usual.new.rest c.in-Some.event c.in-Some.ensures)
+    let begins = ap (lex between) (c.new-usual.ensures ∙ c.rest.ensures) ∙ c.skip_one.ensures in
+    rw (c.new.ensures ∙ c.rest-in-Some.ensures)
+    (subst (λ (ts : List Token). GivesValue clipped_event (suc depth) ts c.in-Some.event
+    (later_tokens c.take_usual.new.rest)) (ap (punctuate after_comma) begins)
+    (usual_gives depth c.new-usual.result c.take_usual.new.rest c.in-Some.event c.in-Some.ensures))
