@@ -1,5 +1,5 @@
 -- The edges that an answer is about.
-use Rattle.std.specs.Prelude.{◌≡◌, ◌++◌, ◌∷◌, [], ℕ, zero, suc, Bool, true, false, List, Some, length}
+use Rattle.std.specs.Prelude.{◌≡◌, ◌++◌, ◌∷◌, [], ℕ, zero, suc, List, Some, length}
 use Rattle.std.specs.Prelude.{slice_index}
 use Rattle.recording.specs.Execution.{Execution}
 use Rattle.relations.specs.declared.reason.Reason.TheVariants.{Po, Fr}
@@ -28,9 +28,3 @@ AreBold x (Order m) edges = edges ≡ []
 AreBold x (Overlook l s) edges = edges ≡ record { first = s; second = l; reason = Po }
     ∷ record { first = l; second = s; reason = Fr } ∷ []
 AreBold x (Cycle c) edges = AreCycleEdges x c.items (length c.items) edges
-
--- whether the ranks are those of a memory order
-abbrev pub is_ranked : LongAnswer → Bool
-is_ranked (Order m) = true
-is_ranked (Overlook l s) = false
-is_ranked (Cycle c) = false

@@ -1,10 +1,12 @@
 -- The events of a picture: a cluster for each core that has a drawn event.
-use Rattle.std.specs.Prelude.{◌++◌, ◌==◌, ◌∷◌, [], ℕ, Bool, true, false, Option, List, codes, decimal, is_some, length}
+use Rattle.std.specs.Prelude.{◌++◌, ◌==◌, ◌∷◌, [], ℕ, Option, List, codes, decimal, is_some, length}
 use Rattle.std.specs.Prelude.{slice_index, if◌then◌else◌}
 use Rattle.std.specs.List.{find, flat_map}
 use Rattle.event_texts.specs.Names.{Names, label_of}
 use Rattle.recording.specs.declared.event.Event.{Event}
 use Rattle.recording.specs.Execution.{Execution, event_count, event_at, core_of}
+use Rattle.drawing.specs.declared.drawn.Layout.{Layout}
+use Rattle.drawing.specs.declared.drawn.Layout.TheVariants.{Ranks, Columns}
 use Rattle.texts.specs.Below.{texts_below}
 use Rattle.drawing.specs.Edges.{po_edge}
 use Rattle.event_texts.specs.Events.{event_text}
@@ -46,16 +48,16 @@ cluster_heading c = codes "  subgraph cluster_" ++ (decimal c ++ (codes " {\n   
     ++ codes "\";\n")))
 
 -- the invisible node above the events of a core in a picture of a memory order
-abbrev pub head_line : Bool → ℕ → List ℕ
-head_line true c = codes "    h" ++ decimal c ++ codes " [shape=\"point\", style=\"invis\"];\n"
-head_line false c = []
+abbrev pub head_line : Layout → ℕ → List ℕ
+head_line Ranks c = codes "    h" ++ decimal c ++ codes " [shape=\"point\", style=\"invis\"];\n"
+head_line Columns c = []
 
 -- the lines of a core
-abbrev pub cluster_lines : Execution → Names → List ℕ → Execution → Bool → ℕ → List ℕ
-cluster_lines x names ks y ranked c = cluster_heading c ++ head_line ranked c
+abbrev pub cluster_lines : Execution → Names → List ℕ → Execution → Layout → ℕ → List ℕ
+cluster_lines x names ks y layout c = cluster_heading c ++ head_line layout c
     ++ texts_below (node_of_core x names ks y c) (event_count y) ++ codes "  }\n"
 
 -- the lines of a core that has a drawn event
-unfoldable pub cluster_text : Execution → Names → List ℕ → Execution → Bool → ℕ → List ℕ
-cluster_text x names ks y ranked c = if is_some (first_on_core x ks c)
-    then cluster_lines x names ks y ranked c else []
+unfoldable pub cluster_text : Execution → Names → List ℕ → Execution → Layout → ℕ → List ℕ
+cluster_text x names ks y layout c = if is_some (first_on_core x ks c)
+    then cluster_lines x names ks y layout c else []

@@ -1,26 +1,28 @@
 -- What puts the nodes of a picture in their places: the cores from left to right, and the events of a memory
 -- order from top to bottom.
-use Rattle.std.specs.Prelude.{◌++◌, ◌==◌, ◌+◌, ◌-◌, [], ℕ, zero, suc, Bool, true, false, Option, Some, None, List}
+use Rattle.std.specs.Prelude.{◌++◌, ◌==◌, ◌+◌, ◌-◌, [], ℕ, zero, suc, Bool, Option, Some, None, List}
 use Rattle.std.specs.Prelude.{codes, decimal, length, slice_index, if◌then◌else◌}
 use Rattle.recording.specs.Execution.{Execution, core_of}
 use Rattle.long.specs.declared.answer.LongAnswer.{LongAnswer}
 use Rattle.long.specs.declared.answer.LongAnswer.TheVariants.{Order, Overlook, Cycle}
+use Rattle.drawing.specs.declared.drawn.Layout.{Layout}
+use Rattle.drawing.specs.declared.drawn.Layout.TheVariants.{Ranks, Columns}
 use Rattle.texts.specs.Below.{texts_below}
 use Rattle.drawing.specs.Nodes.{first_on_core}
 
 -- the topmost node of a core whose first drawn event is this one
-abbrev pub top_node : Bool → ℕ → Option ℕ → List ℕ
-top_node ranked c None = []
-top_node true c (Some e) = codes " h" ++ decimal c
-top_node false c (Some e) = codes " e" ++ decimal e
+abbrev pub top_node : Layout → ℕ → Option ℕ → List ℕ
+top_node layout c None = []
+top_node Ranks c (Some e) = codes " h" ++ decimal c
+top_node Columns c (Some e) = codes " e" ++ decimal e
 
 -- the topmost node of a core, if an event of it is drawn
-abbrev pub top_of_core : Execution → List ℕ → Bool → ℕ → List ℕ
-top_of_core x ks ranked c = top_node ranked c (first_on_core x ks c)
+abbrev pub top_of_core : Execution → List ℕ → Layout → ℕ → List ℕ
+top_of_core x ks layout c = top_node layout c (first_on_core x ks c)
 
 -- the line from the invisible node above all cores to each core
-abbrev pub top_line : Execution → List ℕ → Bool → List ℕ
-top_line x ks ranked = codes "  top -> {" ++ texts_below (top_of_core x ks ranked) (length x.cores)
+abbrev pub top_line : Execution → List ℕ → Layout → List ℕ
+top_line x ks layout = codes "  top -> {" ++ texts_below (top_of_core x ks layout) (length x.cores)
     ++ codes " } [style=\"invis\"];\n"
 
 -- the number of the event at place i of a memory order; the order has places in ks

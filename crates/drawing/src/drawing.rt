@@ -2,11 +2,10 @@
 
 ghost use Rattle.std.specs.Prelude.{◌≡◌, ◌++◌, OnOk, IfOk};
 ghost use Rattle.long.specs.Answer.{IsWitness};
-ghost use Rattle.drawing.specs.Bold.{is_ranked};
-ghost use Rattle.drawing.specs.Drawing.{nodes_text, drawing_text, IsDrawing};
+ghost use Rattle.drawing.specs.Drawing.{layout_of, nodes_text, drawing_text, IsDrawing};
 
 use crate::bold::bold_edges;
-use crate::drawn::Drawn;
+use crate::drawn::{Drawn, Layout};
 use crate::edge_lines::{put_bold, put_thin};
 use crate::edges::Edge;
 use crate::nodes::put_clusters;
@@ -18,14 +17,14 @@ use recording::Recording;
 use std::alloc::Global;
 use texts::put_text;
 
-/// Whether the ranks are those of a memory order.
-fn is_ranked(answer: &LongAnswer) -> bool
-    ensures { result ≡ is_ranked answer.now }
+/// How the events of an answer stand.
+fn layout_of(answer: &LongAnswer) -> Layout
+    ensures { result ≡ layout_of answer.now }
 {
     match answer {
-        LongAnswer::Order(_) => true,
-        LongAnswer::Overlook(_, _) => false,
-        LongAnswer::Cycle(_) => false,
+        LongAnswer::Order(_) => Layout::Ranks,
+        LongAnswer::Overlook(_, _) => Layout::Columns,
+        LongAnswer::Cycle(_) => Layout::Columns,
     }
 }
 
@@ -33,20 +32,20 @@ fn is_ranked(answer: &LongAnswer) -> bool
 fn put_picture_nodes(
     out: &mut Vec<u8>,
     drawn: &Drawn<'_>,
-    ranked: bool,
+    layout: Layout,
     answer: &LongAnswer,
 ) -> Result<(), OutOfMemory>
     ensures { OnOk result (out.new.items ≡ out.old.items
         ++ nodes_text drawn.now.recording.now drawn.now.names.now drawn.now.numbers.now drawn.now.rest.now
-        ranked answer.now) }
+        layout answer.now) }
 {
     put_text(
         out,
         b"digraph recording {\n  node [shape=\"plaintext\"];\n  newrank=\"true\";\n  \
           top [shape=\"point\", style=\"invis\"];\n",
     )?;
-    put_clusters(out, drawn, ranked)?;
-    put_top(out, drawn.recording, drawn.numbers, ranked)?;
+    put_clusters(out, drawn, layout)?;
+    put_top(out, drawn.recording, drawn.numbers, layout)?;
     put_ranks(out, drawn.recording, drawn.numbers, answer)
 }
 
@@ -61,10 +60,10 @@ fn put_drawing(
         ++ drawing_text drawn.now.recording.now drawn.now.names.now drawn.now.numbers.now drawn.now.rest.now
         answer.now bold.now) }
 {
-    let ranked = is_ranked(answer);
-    put_picture_nodes(out, drawn, ranked, answer)?;
-    put_thin(out, drawn, ranked, bold)?;
-    put_bold(out, drawn.numbers, ranked, bold)?;
+    let layout = layout_of(answer);
+    put_picture_nodes(out, drawn, layout, answer)?;
+    put_thin(out, drawn, layout, bold)?;
+    put_bold(out, drawn.numbers, layout, bold)?;
     put_text(out, b"}\n")
 }
 

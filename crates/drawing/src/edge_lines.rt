@@ -1,13 +1,14 @@
 //! The lines of edges.
 
-ghost use Rattle.std.specs.Prelude.{◌≡◌, ◌++◌, OnOk, true};
+ghost use Rattle.std.specs.Prelude.{◌≡◌, ◌++◌, OnOk};
 ghost use Rattle.std.specs.List.{flat_map};
 ghost use Rattle.recording.specs.Execution.{event_count};
 ghost use Rattle.drawing.specs.Drawing.{look_text, style_text, free_text, edge_line, thin_line};
 ghost use Rattle.drawing.specs.Drawing.{po_lines, thin_lines};
+ghost use Rattle.drawing.specs.declared.drawn.Weight.TheVariants.{Bold};
 ghost use Rattle.texts.specs.Below.{texts_below};
 
-use crate::drawn::Drawn;
+use crate::drawn::{Drawn, Layout, Weight};
 use crate::edges::{Edge, co_edge, fr_edge, is_drawn, po_edge, rf_edge};
 use crate::gaps::{is_gap, number_at, put_gap_edges};
 use common::{EventId, OutOfMemory};
@@ -27,20 +28,22 @@ fn look(reason: Reason) -> &'static str
 }
 
 /// How thick an edge is.
-fn style(bold: bool) -> &'static str
-    ensures { result.now ≡ style_text bold }
+fn style(weight: Weight) -> &'static str
+    ensures { result.now ≡ style_text weight }
 {
-    if bold { ", style=\"bold\"" } else { "" }
+    match weight {
+        Weight::Bold => ", style=\"bold\"",
+        Weight::Thin => "",
+    }
 }
 
 /// That an edge puts no event above another.
-fn free(ranked: bool, reason: Reason) -> &'static str
-    ensures { result.now ≡ free_text ranked reason }
+fn free(layout: Layout, reason: Reason) -> &'static str
+    ensures { result.now ≡ free_text layout reason }
 {
-    if ranked || reason != Reason::Po {
-        ", constraint=\"false\""
-    } else {
-        ""
+    match (layout, reason) {
+        (Layout::Columns, Reason::Po) => "",
+        _ => ", constraint=\"false\"",
     }
 }
 
@@ -49,15 +52,15 @@ fn free(ranked: bool, reason: Reason) -> &'static str
 fn put_edge_line(
     out: &mut Vec<u8>,
     numbers: &[EventId],
-    ranked: bool,
-    bold: bool,
+    layout: Layout,
+    weight: Weight,
     edge: Edge,
 ) -> Result<(), OutOfMemory>
-    ensures { OnOk result (out.new.items ≡ out.old.items ++ edge_line numbers.now ranked bold edge) }
+    ensures { OnOk result (out.new.items ≡ out.old.items ++ edge_line numbers.now layout weight edge) }
 {
     let first = number_at(numbers, edge.first);
     let second = number_at(numbers, edge.second);
-    let (look, style, free) = (look(edge.reason), style(bold), free(ranked, edge.reason));
+    let (look, style, free) = (look(edge.reason), style(weight), free(layout, edge.reason));
     write!(out, "  e{first} -> e{second}{look}{style}{free}];\n")
 }
 
@@ -66,11 +69,11 @@ fn put_edge_line(
 fn put_thin_line(
     out: &mut Vec<u8>,
     numbers: &[EventId],
-    ranked: bool,
+    layout: Layout,
     bold: &[Edge],
     edge: Option<Edge>,
 ) -> Result<(), OutOfMemory>
-    ensures { OnOk result (out.new.items ≡ out.old.items ++ thin_line numbers.now ranked bold.now edge) }
+    ensures { OnOk result (out.new.items ≡ out.old.items ++ thin_line numbers.now layout bold.now edge) }
 {
     let Some(edge) = edge else {
         return Ok(());
@@ -78,7 +81,7 @@ fn put_thin_line(
     if is_drawn(bold, edge) {
         Ok(())
     } else {
-        put_edge_line(out, numbers, ranked, false, edge)
+        put_edge_line(out, numbers, layout, Weight::Thin, edge)
     }
 }
 
@@ -87,11 +90,11 @@ fn put_thin_line(
 fn put_po_lines(
     out: &mut Vec<u8>,
     numbers: &[EventId],
-    ranked: bool,
+    layout: Layout,
     bold: &[Edge],
     edge: Option<Edge>,
 ) -> Result<(), OutOfMemory>
-    ensures { OnOk result (out.new.items ≡ out.old.items ++ po_lines numbers.now ranked bold.now edge) }
+    ensures { OnOk result (out.new.items ≡ out.old.items ++ po_lines numbers.now layout bold.now edge) }
 {
     let Some(edge) = edge else {
         return Ok(());
@@ -103,7 +106,7 @@ fn put_po_lines(
             number_at(numbers, edge.second),
         )
     } else {
-        put_thin_line(out, numbers, ranked, bold, Some(edge))
+        put_thin_line(out, numbers, layout, bold, Some(edge))
     }
 }
 
@@ -111,34 +114,34 @@ fn put_po_lines(
 fn put_thin_lines(
     out: &mut Vec<u8>,
     drawn: &Drawn<'_>,
-    ranked: bool,
+    layout: Layout,
     bold: &[Edge],
     event: EventId,
 ) -> Result<(), OutOfMemory>
     ensures { OnOk result (out.new.items ≡ out.old.items
-        ++ thin_lines drawn.now.rest.now drawn.now.numbers.now ranked bold.now event) }
+        ++ thin_lines drawn.now.rest.now drawn.now.numbers.now layout bold.now event) }
 {
     let Drawn { numbers, rest, .. } = *drawn;
-    put_po_lines(out, numbers, ranked, bold, po_edge(rest, event))?;
-    put_thin_line(out, numbers, ranked, bold, rf_edge(rest, event))?;
-    put_thin_line(out, numbers, ranked, bold, co_edge(rest, event))?;
-    put_thin_line(out, numbers, ranked, bold, fr_edge(rest, event))
+    put_po_lines(out, numbers, layout, bold, po_edge(rest, event))?;
+    put_thin_line(out, numbers, layout, bold, rf_edge(rest, event))?;
+    put_thin_line(out, numbers, layout, bold, co_edge(rest, event))?;
+    put_thin_line(out, numbers, layout, bold, fr_edge(rest, event))
 }
 
 /// Adds the lines of all edges that are not drawn bold.
 pub(crate) fn put_thin(
     out: &mut Vec<u8>,
     drawn: &Drawn<'_>,
-    ranked: bool,
+    layout: Layout,
     bold: &[Edge],
 ) -> Result<(), OutOfMemory>
     ensures { OnOk result (out.new.items ≡ out.old.items
-        ++ texts_below (thin_lines drawn.now.rest.now drawn.now.numbers.now ranked bold.now)
+        ++ texts_below (thin_lines drawn.now.rest.now drawn.now.numbers.now layout bold.now)
         (event_count drawn.now.rest.now)) }
 {
     drawn.rest.sound();
     for event in 0..drawn.rest.len() as EventId {
-        put_thin_lines(out, drawn, ranked, bold, event)?;
+        put_thin_lines(out, drawn, layout, bold, event)?;
     }
     Ok(())
 }
@@ -147,14 +150,14 @@ pub(crate) fn put_thin(
 pub(crate) fn put_bold(
     out: &mut Vec<u8>,
     numbers: &[EventId],
-    ranked: bool,
+    layout: Layout,
     bold: &[Edge],
 ) -> Result<(), OutOfMemory>
     ensures { OnOk result (out.new.items ≡ out.old.items
-        ++ flat_map (edge_line numbers.now ranked true) bold.now) }
+        ++ flat_map (edge_line numbers.now layout Bold) bold.now) }
 {
     for edge in bold {
-        put_edge_line(out, numbers, ranked, true, *edge)?;
+        put_edge_line(out, numbers, layout, Weight::Bold, *edge)?;
     }
     Ok(())
 }

@@ -7,7 +7,7 @@ ghost use Rattle.texts.specs.Below.{texts_below};
 ghost use Rattle.drawing.specs.Nodes.{escaped, first_on_core, node_label, node_line};
 ghost use Rattle.drawing.specs.Nodes.{node_of_core, head_line, cluster_text};
 
-use crate::drawn::Drawn;
+use crate::drawn::{Drawn, Layout};
 use crate::edges::po_edge;
 use crate::gaps::{number_at, put_gap_text};
 use common::{EventId, OutOfMemory};
@@ -118,13 +118,12 @@ fn put_nodes(out: &mut Vec<u8>, drawn: &Drawn<'_>, core: usize) -> Result<(), Ou
 }
 
 /// Adds the invisible node above the events of a core, in a picture of a memory order.
-fn put_head(out: &mut Vec<u8>, ranked: bool, core: usize) -> Result<(), OutOfMemory>
-    ensures { OnOk result (out.new.items ≡ out.old.items ++ head_line ranked core) }
+fn put_head(out: &mut Vec<u8>, layout: Layout, core: usize) -> Result<(), OutOfMemory>
+    ensures { OnOk result (out.new.items ≡ out.old.items ++ head_line layout core) }
 {
-    if ranked {
-        write!(out, "    h{core} [shape=\"point\", style=\"invis\"];\n")
-    } else {
-        Ok(())
+    match layout {
+        Layout::Ranks => write!(out, "    h{core} [shape=\"point\", style=\"invis\"];\n"),
+        Layout::Columns => Ok(()),
     }
 }
 
@@ -133,12 +132,12 @@ fn put_head(out: &mut Vec<u8>, ranked: bool, core: usize) -> Result<(), OutOfMem
 fn put_cluster(
     out: &mut Vec<u8>,
     drawn: &Drawn<'_>,
-    ranked: bool,
+    layout: Layout,
     core: usize,
 ) -> Result<(), OutOfMemory>
     ensures { OnOk result (out.new.items ≡ out.old.items
         ++ cluster_text drawn.now.recording.now drawn.now.names.now drawn.now.numbers.now drawn.now.rest.now
-        ranked core) }
+        layout core) }
 {
     if first_on_core(drawn.recording, drawn.numbers, core).is_none() {
         return Ok(());
@@ -147,7 +146,7 @@ fn put_cluster(
         out,
         "  subgraph cluster_{core} {{\n    label=\"core {core}\";\n"
     )?;
-    put_head(out, ranked, core)?;
+    put_head(out, layout, core)?;
     put_nodes(out, drawn, core)?;
     put_text(out, b"  }\n")
 }
@@ -156,15 +155,15 @@ fn put_cluster(
 pub(crate) fn put_clusters(
     out: &mut Vec<u8>,
     drawn: &Drawn<'_>,
-    ranked: bool,
+    layout: Layout,
 ) -> Result<(), OutOfMemory>
     ensures { OnOk result (out.new.items ≡ out.old.items
         ++ texts_below (cluster_text drawn.now.recording.now drawn.now.names.now drawn.now.numbers.now
-        drawn.now.rest.now ranked)
+        drawn.now.rest.now layout)
         (length drawn.now.recording.now.cores)) }
 {
     for core in 0..drawn.recording.cores().len() {
-        put_cluster(out, drawn, ranked, core)?;
+        put_cluster(out, drawn, layout, core)?;
     }
     Ok(())
 }

@@ -5,6 +5,7 @@ ghost use Rattle.texts.specs.Below.{texts_below};
 ghost use Rattle.drawing.specs.Ranks.{top_node, top_of_core, top_line, number_in_order, is_on_core};
 ghost use Rattle.drawing.specs.Ranks.{ranked_node, rank_line, rank_text, core_ranks, ranks_text};
 
+use crate::drawn::Layout;
 use crate::gaps::number_at;
 use crate::nodes::first_on_core;
 use common::{EventId, OutOfMemory};
@@ -16,19 +17,18 @@ use texts::{put_text, put_text_and_number};
 /// Adds the topmost node of a core whose first drawn event is this one.
 fn put_top_node(
     out: &mut Vec<u8>,
-    ranked: bool,
+    layout: Layout,
     core: usize,
     first: Option<EventId>,
 ) -> Result<(), OutOfMemory>
-    ensures { OnOk result (out.new.items ≡ out.old.items ++ top_node ranked core first) }
+    ensures { OnOk result (out.new.items ≡ out.old.items ++ top_node layout core first) }
 {
     let Some(first) = first else {
         return Ok(());
     };
-    if ranked {
-        put_text_and_number(out, b" h", core)
-    } else {
-        put_text_and_number(out, b" e", first as usize)
+    match layout {
+        Layout::Ranks => put_text_and_number(out, b" h", core),
+        Layout::Columns => put_text_and_number(out, b" e", first as usize),
     }
 }
 
@@ -37,13 +37,13 @@ fn put_top_nodes(
     out: &mut Vec<u8>,
     recording: &Recording,
     numbers: &[EventId],
-    ranked: bool,
+    layout: Layout,
 ) -> Result<(), OutOfMemory>
     ensures { OnOk result (out.new.items ≡ out.old.items
-        ++ texts_below (top_of_core recording.now numbers.now ranked) (length recording.now.cores)) }
+        ++ texts_below (top_of_core recording.now numbers.now layout) (length recording.now.cores)) }
 {
     for core in 0..recording.cores().len() {
-        put_top_node(out, ranked, core, first_on_core(recording, numbers, core))?;
+        put_top_node(out, layout, core, first_on_core(recording, numbers, core))?;
     }
     Ok(())
 }
@@ -53,12 +53,12 @@ pub(crate) fn put_top(
     out: &mut Vec<u8>,
     recording: &Recording,
     numbers: &[EventId],
-    ranked: bool,
+    layout: Layout,
 ) -> Result<(), OutOfMemory>
-    ensures { OnOk result (out.new.items ≡ out.old.items ++ top_line recording.now numbers.now ranked) }
+    ensures { OnOk result (out.new.items ≡ out.old.items ++ top_line recording.now numbers.now layout) }
 {
     put_text(out, b"  top -> {")?;
-    put_top_nodes(out, recording, numbers, ranked)?;
+    put_top_nodes(out, recording, numbers, layout)?;
     put_text(out, b" } [style=\"invis\"];\n")
 }
 

@@ -4,5 +4,5 @@ use Rattle.drawing.proofs.edge_lines.put_thin.Goals as goal
 
 pub loop-event-preserved : goal.loop-event-preserved
 loop-event-preserved c =
-    next_text (thin_lines c.args.drawn.now.rest.now c.args.drawn.now.numbers.now c.args.ranked c.args.bold.now)
+    next_text (thin_lines c.args.drawn.now.rest.now c.args.drawn.now.numbers.now c.args.layout c.args.bold.now)
     c.loop-event.event _ _ _ c.loop-event.invariant c.in_ok-put_thin_lines.ensures

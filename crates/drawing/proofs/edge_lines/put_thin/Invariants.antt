@@ -5,4 +5,4 @@ use Rattle.drawing.proofs.edge_lines.put_thin.Given as goal
 
 abbrev pub invariant-loop-event : goal.invariant-loop-event
 invariant-loop-event l = l.out.items ≡ l.fn.out.items
-    ++ texts_below (thin_lines l.drawn.rest.now l.drawn.numbers.now l.ranked l.bold) l.event
+    ++ texts_below (thin_lines l.drawn.rest.now l.drawn.numbers.now l.layout l.bold) l.event

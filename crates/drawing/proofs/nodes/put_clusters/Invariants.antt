@@ -6,4 +6,4 @@ use Rattle.drawing.proofs.nodes.put_clusters.Given as goal
 abbrev pub invariant-loop-core : goal.invariant-loop-core
 invariant-loop-core l = l.out.items ≡ l.fn.out.items
     ++ texts_below
-    (cluster_text l.drawn.recording.now l.drawn.names.now l.drawn.numbers.now l.drawn.rest.now l.ranked) l.core
+    (cluster_text l.drawn.recording.now l.drawn.names.now l.drawn.numbers.now l.drawn.rest.now l.layout) l.core

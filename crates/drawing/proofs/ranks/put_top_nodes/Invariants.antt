@@ -5,4 +5,4 @@ use Rattle.drawing.proofs.ranks.put_top_nodes.Given as goal
 
 abbrev pub invariant-loop-core : goal.invariant-loop-core
 invariant-loop-core l = l.out.items ≡ l.fn.out.items
-    ++ texts_below (top_of_core l.recording l.numbers l.ranked) l.core
+    ++ texts_below (top_of_core l.recording l.numbers l.layout) l.core
