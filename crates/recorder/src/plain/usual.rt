@@ -17,7 +17,6 @@ use recording::Event;
 use texts::Cursor;
 
 /// Takes the text that stands next, if it is this one or the other.
-#[inline(always)]
 fn take_either(rest: &mut Cursor<'_>, tight: &[u8], spaced: &[u8]) -> bool
     ensures found { IsTrue result → (rest.old ≡ tight.now ++ rest.new) ⊎ (rest.old ≡ spaced.now ++ rest.new) }
     ensures kept { result ≡ false → rest.new ≡ rest.old }
