@@ -1,9 +1,9 @@
 -- What is answered of campaigns.
 use Rattle.std.specs.Prelude.{◌≡◌, ◌++◌, ◌∷◌, ℕ, Bool, true, None, Some, List, if◌then◌else◌, is_some, nat_lt}
 use Rattle.program.specs.Parts.{Parts}
-use Rattle.program.specs.Spelling.{spelling}
+use Rattle.litmus.specs.Spelling.{spelling}
 use Rattle.relations.specs.Consistency.{HasNoOrder}
-use Rattle.machine.specs.declared.fault.Fault.{Fault}
+use Rattle.program.specs.declared.fault.Fault.{Fault}
 use Rattle.machine.specs.Configuration.{Configuration}
 use Rattle.machine.specs.State.{State, IsComplete, recorded}
 use Rattle.ledger.specs.declared.ledger.Ledger.{Ledger}

@@ -9,7 +9,7 @@ use Rattle.long.specs.declared.answer.LongAnswer.{LongAnswer}
 use Rattle.long.specs.Answer.{IsLongAnswer}
 use Rattle.long.specs.Texts.{IsLongText, long_outcome}
 use Rattle.reduction.specs.Long.{IsLongReduction}
-use Rattle.replay.specs.Program.{named_program}
+use Rattle.program_events.specs.NamedProgram.{named_program}
 use Rattle.verdicts.specs.declared.printed.Answer.{Answer}
 use Rattle.verdicts.specs.declared.outcome.Outcome.TheVariants.{Violation}
 use Rattle.verdicts.specs.VerdictAnswer.{IsVerdictAnswer}

@@ -1,9 +1,8 @@
 -- What is answered of a violation that is cut down to the events that it needs.
-use Rattle.std.specs.Prelude.{◌≡◌, ◌++◌, ◌∷◌, ◌==◌, [], ℕ, Option, Some, None, List, codes}
-use Rattle.std.specs.Prelude.{if◌then◌else◌, length}
+use Rattle.std.specs.Prelude.{◌≡◌, ◌++◌, ◌∷◌, ◌==◌, [], ℕ, Option, Some, None, List, codes, if◌then◌else◌, length}
 use Rattle.std.specs.List.{flat_map}
 use Rattle.program.specs.Parts.{Parts}
-use Rattle.program.specs.Spelling.{spelling}
+use Rattle.litmus.specs.Spelling.{spelling}
 use Rattle.recording.specs.Execution.{Execution}
 use Rattle.recording.specs.Tso.{IsTsoOrder}
 use Rattle.recorder.specs.Text.{recording_text}
@@ -13,7 +12,7 @@ use Rattle.verdicts.specs.Judgement.{IsVerdict}
 use Rattle.reduction.specs.Needed.{IsReduction}
 use Rattle.event_texts.specs.Labels.{label_at}
 use Rattle.reduction.specs.RestrictedProgram.{restricted_program}
-use Rattle.replay.specs.Program.{named_program}
+use Rattle.program_events.specs.NamedProgram.{named_program}
 use Rattle.texts.specs.Numbers.{numbers_text}
 use Rattle.verdicts.specs.declared.printed.Answer.{Answer}
 use Rattle.verdicts.specs.declared.outcome.Outcome.TheVariants.{Violation}

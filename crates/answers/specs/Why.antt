@@ -1,13 +1,13 @@
 -- Why TSO forbids what a line of a log says: what is answered of its values.
 use Rattle.std.specs.Prelude.{◌+◌, ◌==◌, ◌≡◌, ◌++◌, ◌∷◌, [], ℕ, zero, suc, Bool, true, false, if◌then◌else◌, List}
-use Rattle.std.specs.Prelude.{Option}
-use Rattle.std.specs.Prelude.{Some, None, length, map, option_and_then, option_map, slice_index_or}
+use Rattle.std.specs.Prelude.{Option, Some, None, length, map, option_and_then, option_map, slice_index_or}
 use Rattle.std.specs.List.{range_with_len}
 use Rattle.std.specs.Option.{option_or}
 use Rattle.program.specs.declared.op.Op.{Op}
 use Rattle.program.specs.Parts.{Parts}
 use Rattle.recording.specs.declared.event.Event.{Event}
-use Rattle.machine.specs.State.{event_of, first_event}
+use Rattle.program_events.specs.ProgramOf.{event_of}
+use Rattle.machine.specs.State.{first_event}
 use Rattle.values.specs.Values.{Values, unsourced}
 use Rattle.outcomes.specs.declared.observed.Observation.{Observation}
 use Rattle.outcomes.specs.declared.observed.Observation.TheVariants.{Read, Final}

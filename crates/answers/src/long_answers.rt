@@ -10,11 +10,11 @@ use crate::reduced::{append_verdict, heading_of};
 use common::{MAX_ADDRESSES, MAX_CORES, MAX_EVENTS, OutOfMemory};
 use event_texts::Labels;
 use long::{LongAnswer, judge_long, long_text};
+use program_events::named_program;
 use recorder::write_recording;
 use recording::Recording;
 use reduction::reduce_long;
 use relations::Places;
-use replay::named_program;
 use report::Answer;
 use std::alloc::Global;
 

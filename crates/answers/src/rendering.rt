@@ -7,7 +7,7 @@ ghost use Rattle.verdicts.specs.Verified.{Verifies};
 ghost use Rattle.long.specs.Answer.{IsLongAnswer, IsWitness};
 ghost use Rattle.answers.specs.Rendered.{IsLongPicture, IsLongRenderedAnswer, IsPicture, IsRenderedAnswer};
 ghost use Rattle.answers.specs.Rendered.{IsWholeDrawing, addresses_of, names_of};
-ghost use Rattle.machine.specs.ProgramOf.{IsProgramOf};
+ghost use Rattle.program_events.specs.ProgramOf.{IsProgramOf};
 
 use crate::long_answers::{answered, long_reduced_answer};
 use crate::reduced::reduced_answer;

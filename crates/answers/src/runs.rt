@@ -6,8 +6,8 @@ ghost use Rattle.trials.specs.Judged.{IsJudgedEnd};
 ghost use Rattle.answers.specs.Run.{IsRunAnswer, IsSeededAnswer, script_state};
 
 use common::OutOfMemory;
-use machine::{Fault, Machine, Step};
-use program::Program;
+use machine::{Machine, Step};
+use program::{Fault, Program};
 use rand_core::SeedableRng;
 use rand_xoshiro::Xoshiro256PlusPlus;
 use recorder::write_recording;

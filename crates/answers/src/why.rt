@@ -2,15 +2,14 @@
 
 ghost use Rattle.std.specs.Prelude.{◌≡◌, ◌+◌, ◌^◌, ◌<◌, [], IfOk, length, map, option_map};
 ghost use Rattle.answers.specs.Why.{IsWhy, core_seen, cores_seen, event_seen, events_seen, final_seen, finals_seen};
-ghost use Rattle.answers.specs.Why.{first_values};
-ghost use Rattle.answers.specs.Why.{value_seen, values_seen};
+ghost use Rattle.answers.specs.Why.{first_values, value_seen, values_seen};
 
 use crate::completion_answers::completion_answer;
 use common::{CoreId, OutOfMemory};
-use machine::event_of;
 use outcome_texts::SeenLine;
 use outcomes::{Observation, Outcome, does_read, explains, first_event};
 use program::{Op, Program};
+use program_events::event_of;
 use recording::Event;
 use std::alloc::Global;
 use values::Values;

@@ -1,7 +1,6 @@
 -- What the entries of a command ask for: each option is its entry, or else its default.
-use Rattle.std.specs.Prelude.{◌≡◌, ◌≢◌, ◌&&◌, ◌||◌, ℕ, Bool, List, Option, Some, None, IfSome, codes}
-use Rattle.std.specs.Prelude.{◌+◌, ◌==◌, ◌++◌, [], ◌∷◌, ⊤, false, find, count_by, if◌then◌else◌, is_some, nat_lt, not}
-use Rattle.std.specs.Prelude.{option_map, true}
+use Rattle.std.specs.Prelude.{◌≡◌, ◌≢◌, ◌&&◌, ◌||◌, ℕ, Bool, List, Option, Some, None, IfSome, codes, ◌+◌, ◌==◌, ◌++◌}
+use Rattle.std.specs.Prelude.{[], ◌∷◌, ⊤, false, find, count_by, if◌then◌else◌, is_some, nat_lt, not, option_map, true}
 use Rattle.std.specs.Prelude.{unwrap_or}
 use Rattle.std.specs.Option.{option_map_or, option_or}
 use Rattle.std.specs.List.{list_any}
@@ -10,20 +9,18 @@ use Rattle.std.specs.Str.Parse.{digits_value, without_leading_plus}
 use Rattle.clap.specs.Words.{IsUnsignedIn, Row, Text, all_of, first_of, one_of}
 use Rattle.clap.specs.Takes.{is_given}
 use Rattle.clap.specs.Values.{bool_text}
-use Rattle.machine.specs.declared.fault.Fault.{Fault}
+use Rattle.program.specs.declared.fault.Fault.{Fault}
 use Rattle.headers.specs.Faults.{fault_named}
 use Rattle.command_line.specs.declared.options.Limits.{Limits}
 use Rattle.command_line.specs.declared.options.Misfit.{Misfit}
 use Rattle.command_line.specs.declared.options.Misfit.TheVariants.{EachWithShow, CompleteWithShow, HeaderWithShow}
-use Rattle.command_line.specs.declared.options.Misfit.TheVariants.{ReduceWithoutShow}
-use Rattle.command_line.specs.declared.options.Misfit.TheVariants.{StatesWithoutComplete}
+use Rattle.command_line.specs.declared.options.Misfit.TheVariants.{ReduceWithoutShow, StatesWithoutComplete}
 use Rattle.command_line.specs.declared.options.Misfit.TheVariants.{HeaderWithComplete, HeaderWithEach}
-use Rattle.command_line.specs.declared.options.Misfit.TheVariants.{HeaderWithoutLines}
-use Rattle.command_line.specs.declared.options.Misfit.TheVariants.{RunsWithSteps, TwoQuestions, UnseenWithoutObserved}
-use Rattle.command_line.specs.declared.options.Misfit.TheVariants.{WhyWithoutObserved}
+use Rattle.command_line.specs.declared.options.Misfit.TheVariants.{HeaderWithoutLines, RunsWithSteps, TwoQuestions}
+use Rattle.command_line.specs.declared.options.Misfit.TheVariants.{UnseenWithoutObserved, WhyWithoutObserved}
 use Rattle.command_line.specs.declared.options.Misfit.TheVariants.{CompleteWithLong, ProgramWithLong, ReduceWithLong}
-use Rattle.command_line.specs.declared.options.Misfit.TheVariants.{WorkersWithLong, WorkersWithoutRuns}
-use Rattle.command_line.specs.declared.options.Misfit.TheVariants.{CycleWithAll, ForbiddenWithoutAll, NoCycle}
+use Rattle.command_line.specs.declared.options.Misfit.TheVariants.{WorkersWithLong, WorkersWithoutRuns, CycleWithAll}
+use Rattle.command_line.specs.declared.options.Misfit.TheVariants.{ForbiddenWithoutAll, NoCycle}
 use Rattle.command_line.specs.declared.options.TheConstants.{DEFAULT_FAULT}
 use Rattle.command_line.specs.declared.table.Takes.{Takes}
 use Rattle.command_line.specs.declared.table.Takes.TheVariants as takes

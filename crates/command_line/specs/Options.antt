@@ -1,11 +1,10 @@
 -- The options that the words ask for.
 use Rattle.std.specs.Prelude.{◌≡◌, ◌≢◌, ◌≤◌, ◌<◌, ◌+◌, ◌%◌, ◌^◌, ℕ, List, Option, Some, None, IfSome, Ok, false, ⊤}
-use Rattle.std.specs.Prelude.{codes, true}
-use Rattle.std.specs.Prelude.{IsSomeAnd, if◌then◌else◌, is_some, length, map, option_map, string_bytes, []}
+use Rattle.std.specs.Prelude.{codes, true, IsSomeAnd, if◌then◌else◌, is_some, length, map, option_map, string_bytes, []}
 use Rattle.recording.specs.declared.size.RecordingSize.{RecordingSize}
 use Rattle.recording.specs.declared.size.RecordingSize.TheVariants.{Long, Short}
 use Rattle.clap.specs.Takes.{is_given}
-use Rattle.clap.specs.Words.{IsAmong, Row, Text, fault_of, first_of, kind_of, takes}
+use Rattle.clap.specs.Words.{IsAmong, Row, Text, fault_of, first_of, kind_of, takes, all_of, one_of, subcommand_rows_of}
 use Rattle.clap.specs.declared.error.Error.{Error}
 use Rattle.clap.specs.declared.error.kind.ErrorKind.TheVariants as kinds
 use Rattle.command_line.specs.declared.options.Limits.{Limits}
@@ -31,21 +30,18 @@ use Rattle.command_line.specs.declared.options.DrawOptions.{DrawOptions}
 use Rattle.command_line.specs.declared.options.ExplainOptions.{ExplainOptions}
 use Rattle.command_line.specs.declared.options.OptionStop.{OptionStop}
 use Rattle.command_line.specs.declared.options.OptionStop.TheVariants.{Clap, RefusalMeaning, RefusalMeanings}
-use Rattle.command_line.specs.declared.options.OptionStop.TheVariants.{StandardInputTwice, Misfit, Refused}
-use Rattle.command_line.specs.declared.options.OptionStop.TheVariants.{OutOfMemory}
+use Rattle.command_line.specs.declared.options.OptionStop.TheVariants.{StandardInputTwice, Misfit, Refused, OutOfMemory}
 use Rattle.command_line.specs.declared.options.TheConstants.{ATTEMPTS, BUFFER, DEFAULT_SEED, FROM, LIMIT, LINES, TRIALS}
 use Rattle.command_line.specs.declared.options.TheConstants.{CYCLES, RUNS, STATES, WORKERS}
 use Rattle.command_line.specs.declared.values.Values.{Values}
 use Rattle.command_line.specs.Commands.{HaveNoMistake, command_of, program_app}
-use Rattle.command_line.specs.Entries.{HasEntries, machine_fault_of, misfit_of, names_standard_input_twice}
-use Rattle.command_line.specs.Entries.{cycles_of, joined_from, names_given, number_of, number_or, number_written}
-use Rattle.command_line.specs.Entries.{show_of}
+use Rattle.command_line.specs.Entries.{HasEntries, machine_fault_of, misfit_of, names_standard_input_twice, cycles_of}
+use Rattle.command_line.specs.Entries.{joined_from, names_given, number_of, number_or, number_written, show_of}
 use Rattle.command_line.specs.Meanings.{asks_of_refusals, meaning_asked}
-use Rattle.clap.specs.Words.{all_of, one_of, subcommand_rows_of}
 use Rattle.clap.specs.declared.parser.matches.ArgMatches.{ArgMatches}
 use Rattle.command_line.specs.Refusals.{refusal_of, shape_asked}
 use Rattle.command_line.specs.Shards.{part_asked}
-use Rattle.campaign.specs.declared.shard.Part.{Part}
+use Rattle.program.specs.declared.shard.Part.{Part}
 
 -- n is the number that is asked for, from 1 to the limit
 pub record IsInRange (limit asked n : ℕ) : Type 0 where

@@ -3,7 +3,7 @@ use Rattle.std.specs.Prelude.{ℕ, Bool, true, List, Option, Some, None, Result,
 use Rattle.std.specs.Prelude.{nat_lt, option_and_then, option_map}
 use Rattle.std.specs.Option.{option_or}
 use Rattle.clap.specs.Words.{Row, Text, one_of}
-use Rattle.campaign.specs.declared.shard.Part.{Part}
+use Rattle.program.specs.declared.shard.Part.{Part}
 use Rattle.program.specs.declared.shape_error.ShapeError.{ShapeError}
 use Rattle.program.specs.Shapes.{Sizes, is_outside, shape_of}
 use Rattle.command_line.specs.declared.options.Limits.{Limits}

@@ -5,9 +5,9 @@ use Rattle.std.specs.List.{after_first, before_first}
 use Rattle.std.specs.Option.{option_map_or}
 use Rattle.clap.specs.Words.{Row, Text, first_of}
 use Rattle.texts.specs.Decimals.{decimal_of}
-use Rattle.campaign.specs.declared.shard.Part.{Part}
-use Rattle.campaign.specs.declared.shard.Shard.{Shard}
-use Rattle.campaign.specs.Shards.{part_of}
+use Rattle.program.specs.declared.shard.Part.{Part}
+use Rattle.program.specs.declared.shard.Shard.{Shard}
+use Rattle.program.specs.Shards.{part_of}
 use Rattle.command_line.specs.declared.options.TheConstants.{TRIALS}
 use Rattle.command_line.specs.Entries.{number_of}
 

@@ -4,9 +4,8 @@ ghost use Rattle.std.specs.Prelude.{option_map, string_bytes};
 ghost use Rattle.clap.specs.Words.{Row, first_of, found_of, rows_of};
 ghost use Rattle.command_line.specs.Entries.{HasEntries, HasText, joined_from, names_given, with_space};
 ghost use Rattle.command_line.specs.Options.{AreExplainOptions, AreMakeOptions, AreMergeOptions, AreOptionsOf};
-ghost use Rattle.command_line.specs.Options.{AreRunOptions};
-ghost use Rattle.command_line.specs.Options.{AreOutcomesOptions, AreSurveyOptions, AreValuesAsked, IsCompletionAsked};
-ghost use Rattle.command_line.specs.Options.{IsQuestion, size_asked};
+ghost use Rattle.command_line.specs.Options.{AreRunOptions, AreOutcomesOptions, AreSurveyOptions, AreValuesAsked};
+ghost use Rattle.command_line.specs.Options.{IsCompletionAsked, IsQuestion, size_asked};
 ghost use Rattle.command_line.specs.Refusals.{refusal_of};
 
 use crate::entries::{maybe_text, maybe_texts};
@@ -16,8 +15,8 @@ use crate::options::{
     TrialsOptions, VerifyOptions,
 };
 use crate::values::Values;
-use campaign::Campaign;
 use clap::ArgMatches;
+use program::Campaign;
 use recording::RecordingSize;
 use std::alloc::{AllocError, Global};
 

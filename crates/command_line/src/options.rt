@@ -1,10 +1,8 @@
 //! The options of each command, and why there are none.
 
-use campaign::Campaign;
 use clap::error::ErrorKind;
 use common::{MAX_CAPACITY, MAX_STEPS, MAX_TRIALS, MAX_WORKERS};
-use machine::Fault;
-use program::ShapeError;
+use program::{Campaign, Fault, ShapeError};
 use recording::RecordingSize;
 use std::alloc::AllocError;
 use std::fmt;

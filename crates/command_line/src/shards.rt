@@ -1,7 +1,7 @@
 //! The trials that are run: all of a campaign, or those of one of its shards.
 ghost use Rattle.std.specs.Prelude.{◌≡◌, IfOk, IfSome, Option, Some, codes, ℕ};
 ghost use Rattle.std.specs.Result.{result_err};
-ghost use Rattle.campaign.specs.Shards.{IsShard};
+ghost use Rattle.program.specs.Shards.{IsShard};
 ghost use Rattle.clap.specs.Words.{found_of, rows_of};
 ghost use Rattle.texts.specs.Decimals.{AreValues};
 ghost use Rattle.command_line.specs.Entries.{HasNumber};
@@ -11,9 +11,8 @@ ghost use Rattle.command_line.specs.Shards.{part_asked, shard_among, shard_writt
 
 use crate::entries::{maybe_text, number_or};
 use crate::options::{OptionRefusal, TRIALS};
-use campaign::{Part, Shard};
 use clap::ArgMatches;
-use program::is_outside;
+use program::{Part, Shard, is_outside};
 use texts::{Number, decimal};
 
 /// The shard of this number among so many, where it is one of them.

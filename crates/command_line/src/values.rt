@@ -13,11 +13,9 @@ use crate::options::{
     OptionRefusal, RUNS, STATES, WORKERS,
 };
 use crate::shards::part;
-use campaign::Part;
 use clap::ArgMatches;
 use headers::fault_named;
-use machine::Fault;
-use program::{Shape, is_outside};
+use program::{Fault, Part, Shape, is_outside};
 
 /// The numbers, the fault and the flags that entries ask for: where there is no entry, the default.
 #[derive(Drop)]

@@ -1,14 +1,14 @@
 -- What is answered to the bytes of a recording that is to be replayed.
 use Rattle.std.specs.Prelude.{◌≡◌, ◌≤◌, ◌⊎◌, ◌++◌, ◌∷◌, [], ℕ, List, Option, Ok, codes, decimal, string_bytes}
 use Rattle.command_line.specs.declared.options.FileOptions.{FileOptions}
-use Rattle.program.specs.Spelling.{spelling}
-use Rattle.program.specs.Text.{reading}
+use Rattle.litmus.specs.Spelling.{spelling}
+use Rattle.litmus.specs.Text.{reading}
 use Rattle.recording.specs.declared.size.RecordingSize.TheVariants.{Short}
 use Rattle.recording.specs.Execution.{Execution}
 use Rattle.recording.specs.Tso.{IsTsoOrder}
 use Rattle.machine.specs.Script.{steps_of, script_text}
 use Rattle.recording.specs.FirstUse.{IsNumberedByFirstUse}
-use Rattle.replay.specs.Program.{named_program}
+use Rattle.program_events.specs.NamedProgram.{named_program}
 use Rattle.replay.specs.OrderReplay.{IsReplay}
 use Rattle.replay.specs.Steps.{replay_steps, most_stores}
 use Rattle.verdicts.specs.Judgement.{IsOrderedVerdict}

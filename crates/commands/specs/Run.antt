@@ -14,7 +14,7 @@ use Rattle.commands.specs.Headed.{IsHeaded}
 use Rattle.histograms.specs.declared.live_runs.LiveRuns.{LiveRuns}
 use Rattle.histograms.specs.declared.seeded_runs.SeededRuns.{SeededRuns}
 use Rattle.program.specs.Parts.{Parts}
-use Rattle.machine.specs.declared.fault.Fault.TheVariants as fault
+use Rattle.program.specs.declared.fault.Fault.TheVariants as fault
 use Rattle.machine.specs.declared.step.Step.{Step}
 use Rattle.machine.specs.State.{State, IsComplete}
 use Rattle.machine.specs.Taken.{all_taken, begun}

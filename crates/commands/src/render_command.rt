@@ -1,7 +1,7 @@
 //! The commands `explain`, `draw` and `reduce`.
 ghost use Rattle.std.specs.Prelude.{◌≡◌, IfErr, IfOk, IfSome, option_map, string_bytes};
 ghost use Rattle.recording.specs.Recording.{IsRecordingWithin};
-ghost use Rattle.machine.specs.ProgramOf.{IsProgramOf};
+ghost use Rattle.program_events.specs.ProgramOf.{IsProgramOf};
 ghost use Rattle.inputs.specs.Inputs.{ReadsNamed};
 ghost use Rattle.commands.specs.Command.{maybe_name, render_names};
 ghost use Rattle.commands.specs.Render.{AreLabelsGiven, IsLabellingStop, IsNamesStop, IsProgramGiven, IsRendered};
@@ -12,9 +12,9 @@ use command_line::ExplainOptions;
 use common::OutOfMemory;
 use devices::Host;
 use event_texts::Labels;
-use explanation::is_program_of;
 use inputs::{CommandStop, labels_at, program_at, recording_at};
 use program::Program;
+use program_events::is_program_of;
 use recording::{Recording, RecordingSize};
 use report::Answer;
 use std::alloc::Global;

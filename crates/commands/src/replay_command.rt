@@ -13,11 +13,11 @@ use common::{EventId, OutOfMemory};
 use devices::Host;
 use inputs::{CommandStop, recording_at};
 use judge::{Verdict, judge_alone};
-use litmus::print;
+use litmus::{has_one_text, print};
 use machine::steps_text;
-use program::has_one_text;
+use program_events::is_numbered;
 use recording::{Recording, RecordingSize};
-use replay::{is_numbered, most_stores, replay_steps};
+use replay::{most_stores, replay_steps};
 use report::{Answer, Outcome, verdict_answer};
 use std::alloc::Global;
 

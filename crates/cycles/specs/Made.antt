@@ -1,11 +1,9 @@
 -- What is made of words, and why nothing is.
 use Rattle.std.specs.Prelude.{◌+◌, ◌≡◌, ◌≢◌, ◌<◌, ◌⊎◌, ◌∷◌, [], ℕ, List, Ok, Err, codes, count_by, if◌then◌else◌}
-use Rattle.std.specs.Prelude.{length}
-use Rattle.std.specs.Prelude.{min, nat_lt, slice_index}
-use Rattle.machine.specs.ProgramOf.{IsProgramOf}
+use Rattle.std.specs.Prelude.{length, min, nat_lt, slice_index}
+use Rattle.program_events.specs.ProgramOf.{IsProgramOf}
 use Rattle.program.specs.declared.name.Name.{Name}
-use Rattle.program.specs.Names.{name_text}
-use Rattle.program.specs.Spelling.{name_at}
+use Rattle.program.specs.Names.{name_text, name_at}
 use Rattle.recording.specs.Event.{value_written}
 use Rattle.recording.specs.Execution.{Execution, event_at, event_count, write_list}
 use Rattle.recording.specs.Recording.{IsShortRecording}

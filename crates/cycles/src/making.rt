@@ -1,7 +1,7 @@
 //! Programs and recordings of cycles.
 
 ghost use Rattle.std.specs.Prelude.{◌≡◌, IfOk, IfSome, MatchOption, MatchResult, None, Some};
-ghost use Rattle.machine.specs.ProgramOf.{IsProgramOf};
+ghost use Rattle.program_events.specs.ProgramOf.{IsProgramOf};
 ghost use Rattle.recording.specs.Recording.{IsShortRecording};
 ghost use Rattle.cycles.specs.Made.{AreCycle, HaveLetters, IsMade, IsMadeFrom, IsRefusal, IsWordsRefusal};
 
@@ -14,10 +14,9 @@ use crate::reading::words_in;
 use crate::refusal::CycleRefusal;
 use crate::word::Word;
 use common::{EventId, OutOfMemory};
-use explanation::is_program_of;
 use program::Program;
+use program_events::{is_numbered, is_program_of, named_program};
 use recording::{Event, Recording, RecordingSize};
-use replay::{is_numbered, named_program};
 use std::alloc::Global;
 
 /// What is made of a cycle.

@@ -1,15 +1,14 @@
 //! The names that diy gives addresses.
 
 ghost use Rattle.std.specs.Prelude.{◌≡◌, ◌<◌, ◌∷◌, [], ℕ, IsTrue, codes, length};
-ghost use Rattle.program.specs.Spelling.{name_at};
-ghost use Rattle.program.specs.Names.{name_text};
+ghost use Rattle.program.specs.Names.{name_at, name_text};
 ghost use Rattle.cycles.specs.Made.{HasLetter, HaveLetters};
 
 use common::OutOfMemory;
 use indexmap::IndexSet;
 use program::{Name, Ops, Program, name_at};
+use program_events::named_program;
 use recording::Recording;
-use replay::named_program;
 use std::alloc::Global;
 
 /// The names of addresses, in the order in which they are used.

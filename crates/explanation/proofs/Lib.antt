@@ -1,3 +1,2 @@
 pub mod ToldWords
-pub mod Makings
 pub mod NamedRows

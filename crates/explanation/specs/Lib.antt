@@ -2,5 +2,4 @@ pub mod Diy
 pub mod Cycle
 pub mod Overlook
 pub mod Order
-pub mod Program
 pub mod Explanation

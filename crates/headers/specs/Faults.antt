@@ -1,8 +1,8 @@
 -- Names of faults.
 use Rattle.std.specs.Prelude.{◌∷◌, [], ℕ, List, Option, codes, find}
 use Rattle.std.specs.Str.{bytes_eq}
-use Rattle.machine.specs.declared.fault.Fault.{Fault}
-use Rattle.machine.specs.declared.fault.Fault.TheVariants as fault
+use Rattle.program.specs.declared.fault.Fault.{Fault}
+use Rattle.program.specs.declared.fault.Fault.TheVariants as fault
 
 -- the name by which --fault asks for a fault
 abbrev pub fault_name : Fault → List ℕ

@@ -2,8 +2,8 @@
 use Rattle.std.specs.Prelude.{◌<◌, ◌≤◌, ◌++◌, ◌∷◌, ◌^◌, [], ℕ, List, codes, decimal}
 use Rattle.common.specs.declared.limits.TheConstants.{MAX_CAPACITY, MAX_STEPS}
 use Rattle.program.specs.Shapes.{IsShape}
-use Rattle.machine.specs.declared.fault.Fault.{Fault}
-use Rattle.campaign.specs.Campaigns.{Plan}
+use Rattle.program.specs.declared.fault.Fault.{Fault}
+use Rattle.program.specs.Campaigns.{Plan}
 use Rattle.headers.specs.declared.header.Counted.{Counted}
 use Rattle.headers.specs.declared.header.Counted.TheVariants.{Campaign, Survey, LongSurvey}
 use Rattle.headers.specs.declared.header.Header.{Header}

@@ -3,7 +3,7 @@
 ghost use Rattle.std.specs.Prelude.{◌≡◌};
 ghost use Rattle.headers.specs.Faults.{fault_name, fault_named};
 
-use machine::Fault;
+use program::Fault;
 
 /// The name of a fault, as `--fault` has it.
 pub fn fault_name(fault: Fault) -> &'static [u8]

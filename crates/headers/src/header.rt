@@ -5,9 +5,8 @@ ghost use Rattle.headers.specs.Headers.{campaign_words, count_name, counted_word
 ghost use Rattle.headers.specs.Headers.{machine_words, option_words, size_words};
 
 use crate::fault::fault_name;
-use campaign::Campaign;
 use common::OutOfMemory;
-use machine::Fault;
+use program::{Campaign, Fault};
 use texts::{put_number, put_text};
 
 /// What the trials of a campaign have in common beside their number and their seeds.

@@ -1,7 +1,7 @@
 -- The program, the recording, the values or the labels that a named input is, and why it is not read.
 use Rattle.std.specs.Prelude.{◌≡◌, ◌≢◌, ◌⊎◌, ◌++◌, ◌∷◌, [], ℕ, List, Option, Some, Ok, Err, codes, length, string_bytes}
 use Rattle.program.specs.Parts.{Parts}
-use Rattle.program.specs.Text.{reading}
+use Rattle.litmus.specs.Text.{reading}
 use Rattle.recording.specs.declared.fault.RecError.{RecError}
 use Rattle.recording.specs.declared.size.RecordingSize.{RecordingSize}
 use Rattle.recording.specs.Execution.{Execution, event_count}

@@ -2,8 +2,7 @@
 ghost use Rattle.std.specs.Prelude.{◌≡◌, ◌∷◌, [], IfErr, IfOk};
 ghost use Rattle.inputs.specs.Inputs.{ReadsNamed};
 ghost use Rattle.inputs.specs.Named.{AreLabelsAt, IsLabelsStop, IsProgramAt, IsProgramStop, IsRecordingAt};
-ghost use Rattle.inputs.specs.Named.{IsRecordingStop};
-ghost use Rattle.inputs.specs.Named.{AreValuesAt, IsValuesStop};
+ghost use Rattle.inputs.specs.Named.{IsRecordingStop, AreValuesAt, IsValuesStop};
 
 use crate::command_error::CommandError;
 use crate::command_stop::{CommandStop, PrintedRefusal};
@@ -11,8 +10,8 @@ use crate::reading::text_at;
 use crate::refusal::line_refusal;
 use devices::Host;
 use event_texts::{LabelError, Labels, labels_in};
-use litmus::{line_refusal_name, parse};
-use program::{LitmusError, Program};
+use litmus::{LitmusError, line_refusal_name, parse};
+use program::Program;
 use recorder::read_recording_of;
 use recording::{Recording, RecordingSize};
 use std::alloc::Global;

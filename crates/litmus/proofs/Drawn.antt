@@ -1,8 +1,7 @@
 -- What random words make keeps the limits of a program.
-use Rattle.std.proofs.Common.{◌≡◌, ℕ, ◌+◌, ◌/◌, ◌%◌, ◌<◌, ◌≤◌, ◌==◌, ◌^◌, ◌⊎◌, ◌||◌, ◌≢◌}
-use Rattle.std.proofs.Common.{ne_eqb, nat_lt, nat_eq, List, [], ◌∷◌, ◌++◌, map, length}
-use Rattle.std.proofs.Common.{codes, decimal, Bool, true, false, cond, Some, inl, inr, refl, arith, sym}
-use Rattle.std.proofs.Common.{ap, ◌∙◌, subst, eqb-true}
+use Rattle.std.proofs.Common.{◌≡◌, ℕ, ◌+◌, ◌/◌, ◌%◌, ◌<◌, ◌≤◌, ◌==◌, ◌^◌, ◌⊎◌, ◌||◌, ◌≢◌, ne_eqb, nat_lt, nat_eq, List}
+use Rattle.std.proofs.Common.{[], ◌∷◌, ◌++◌, map, length, codes, decimal, Bool, true, false, cond, Some, inl, inr, refl}
+use Rattle.std.proofs.Common.{arith, sym, ap, ◌∙◌, subst, eqb-true}
 use Rattle.std.specs.List.{AllByRecursion, IsDistinct, list_any}
 use Rattle.std.specs.Cmp.{nat_eq_equiv}
 use Rattle.std.proofs.lemmas.Bool.{cases_Bool, false≢true}
@@ -14,16 +13,16 @@ use Rattle.program.specs.declared.op.Op.{Op}
 use Rattle.program.specs.declared.op.Op.TheVariants.{St, Ld, Fence, Swap, Add}
 use Rattle.common.specs.declared.limits.TheConstants.{MAX_CORES, MAX_EVENTS, MAX_ADDRESSES}
 use Rattle.program.specs.AddressNames.{address_name}
-use Rattle.program.specs.Names.{name_eq, name_of, name_text}
+use Rattle.program.specs.Names.{name_eq, name_of, name_text, names_with, name_number}
 use Rattle.program.specs.Parts.{Small, Body, op_count, addr_of, use_addr}
-use Rattle.program.specs.Steps.{empty, names_with, name_number, with_op}
+use Rattle.litmus.specs.Steps.{empty, with_op}
 use Rattle.litmus.specs.Random.{IsDrawn, drawn_op, with_fence, with_access, with_word, with_core}
 use Rattle.program.specs.AddressNameLaws.{name_is}
-use Rattle.program.specs.NameLaws.{name_again}
-use Rattle.program.specs.NameLaws.{name_laws}
+use Rattle.program.specs.NameLaws.{name_again, name_laws}
 use Rattle.program.specs.NameListLaws.{all_push}
-use Rattle.program.proofs.OneName.{one_name}
-use Rattle.program.proofs.CoreLemmas.{count-append, grown, last_core, use_cores-push, with_op-is, Cores}
+use Rattle.litmus.proofs.OneName.{one_name}
+use Rattle.litmus.proofs.OneMore.{count-append, grown, last_core, use_cores-push, with_op-is}
+use Rattle.program.proofs.CoreLemmas.{Cores}
 
 -- ---- the addresses that are drawn
 

@@ -1,12 +1,11 @@
 -- Initial values that are resized, and their text.
 use Rattle.std.proofs.Common.{◌≡◌, ℕ, zero, suc, ◌+◌, ◌-◌, ◌<◌, ◌≤◌, List, [], ◌∷◌, ◌++◌, length, take}
 use Rattle.std.proofs.Common.{get_or, replicate, refl, arith, ap, ◌∙◌}
-use Rattle.std.proofs.lemmas.List.{length-append, append-nil, length-take-le}
-use Rattle.std.proofs.lemmas.List.{take_more}
+use Rattle.std.proofs.lemmas.List.{length-append, append-nil, length-take-le, take_more}
 use Rattle.program.specs.declared.name.Name.{Name}
-use Rattle.program.specs.Drafts.{filled}
-use Rattle.program.specs.Spelling.{init_text, value_text}
-use Rattle.program.proofs.DraftLemmas.{init_append}
+use Rattle.litmus.specs.Drafts.{filled}
+use Rattle.litmus.specs.Spelling.{init_text, value_text}
+use Rattle.litmus.proofs.DraftLemmas.{init_append}
 
 -- values that are filled up to some count are no more
 pub few_filled : (a : ℕ) (init : List ℕ) → length (filled a init) ≡ a → length init ≤ a

@@ -1,3 +1,14 @@
+pub mod OnLists
+pub mod OneMore
+pub mod DraftLemmas
+pub mod OneName
+pub mod OneLine
+pub mod OneStep
+pub mod OneDraft
+pub mod OneText
+pub mod Cuts
+pub mod CoresAgain
+pub mod Again
 pub mod Initial
 pub mod Parsing
 pub mod Drawn

@@ -1,3 +1,8 @@
+pub mod Lines
+pub mod Steps
+pub mod Drafts
+pub mod Text
+pub mod Spelling
 pub mod ParsedLine
 pub mod Built
 pub mod Random

@@ -8,8 +8,9 @@ use Rattle.program.specs.declared.op.Op.TheVariants.{St, Ld, Fence, Swap, Add}
 use Rattle.program.specs.AddressNames.{address_name}
 use Rattle.program.specs.Parts.{Body, Parts, IsBody, op_count}
 use Rattle.program.specs.Shapes.{Sizes}
-use Rattle.program.specs.Steps.{empty, names_with, name_number, with_op}
-use Rattle.program.specs.Drafts.{plain, drafted_program}
+use Rattle.litmus.specs.Steps.{empty, with_op}
+use Rattle.program.specs.Names.{names_with, name_number}
+use Rattle.litmus.specs.Drafts.{plain, drafted_program}
 
 -- the state of the generator after n words
 abbrev pub after_words : ℕ → List ℕ → List ℕ

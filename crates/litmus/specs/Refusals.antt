@@ -1,7 +1,7 @@
 -- The lines of refused texts.
 use Rattle.std.specs.Prelude.{◌++◌, ◌∷◌, [], ℕ, List, codes, decimal}
-use Rattle.program.specs.declared.refusal.LineRefusal.{LineRefusal}
-use Rattle.program.specs.declared.refusal.LineRefusal.TheVariants.{L1, L2, L3, L4, L5, L6, L7, L8}
+use Rattle.litmus.specs.declared.refusals.LineRefusal.{LineRefusal}
+use Rattle.litmus.specs.declared.refusals.LineRefusal.TheVariants.{L1, L2, L3, L4, L5, L6, L7, L8}
 
 -- the name of the refusal of a program's line
 abbrev pub line_refusal_name : LineRefusal → List ℕ

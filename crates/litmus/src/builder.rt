@@ -1,11 +1,13 @@
 //! The names and operations so far.
 
 ghost use Rattle.std.specs.Prelude.{◌≡◌};
-ghost use Rattle.program.specs.Steps.{write_op};
+ghost use Rattle.litmus.specs.Steps.{write_op};
 
+use crate::refusals::{LineRefusal, LitmusError};
+use crate::write_kind::WriteKind;
 use common::{Addr, MAX_ADDRESSES, MAX_CORES, MAX_EVENTS, OutOfMemory};
 use indexmap::IndexSet;
-use program::{LineRefusal, LitmusError, Name, Op, Ops, WriteKind, are_below};
+use program::{Name, Op, Ops, are_below};
 use std::alloc::Global;
 use texts::Number;
 
@@ -17,16 +19,16 @@ pub struct Builder {
 }
 
 impl Builder {
-    ghost use Rattle.std.specs.Prelude.{◌≡◌, ◌≤◌, ◌<◌, ◌^◌, ℕ, Err, Ok, None, Result, OnOk, IfOk, IfErr};
-    ghost use Rattle.std.specs.Prelude.{length};
+    ghost use Rattle.std.specs.Prelude.{◌≡◌, ◌≤◌, ◌<◌, ◌^◌, ℕ, Err, Ok, None, Result, OnOk, IfOk, IfErr, length};
     ghost use Rattle.program.specs.Parts.{Body};
-    ghost use Rattle.program.specs.declared.refusal.LineRefusal.{LineRefusal};
+    ghost use Rattle.litmus.specs.declared.refusals.LineRefusal.{LineRefusal};
     ghost use Rattle.texts.specs.declared.line_error.LineError.TheVariants.{OutOfMemory};
-    ghost use Rattle.program.specs.Steps.{empty, core_step, fence_step, load_step, write_step, op_refusal};
-    ghost use Rattle.program.specs.Steps.{at_name, names_with, name_number, with_op, write_op, compare_step};
+    ghost use Rattle.litmus.specs.Steps.{empty, core_step, fence_step, load_step, write_step, op_refusal};
+    ghost use Rattle.litmus.specs.Steps.{at_name, with_op, write_op, compare_step};
+    ghost use Rattle.program.specs.Names.{names_with, name_number};
     ghost use Rattle.texts.specs.Decimals.{IsValue};
     ghost use Rattle.texts.specs.Reading.{AnswersLine, seen_as};
-    ghost use Rattle.program.specs.declared.line.WriteKind.{WriteKind};
+    ghost use Rattle.litmus.specs.declared.write_kind.WriteKind.{WriteKind};
     ghost use Rattle.litmus.specs.Built.{state};
     ghost use Rattle.litmus.specs.Random.{with_core};
 
@@ -40,7 +42,7 @@ impl Builder {
     }
 
     /// A line `core`.
-    #[tactic(auto, unfolding(program::specs::Steps::core_step))]
+    #[tactic(auto, unfolding(litmus::specs::Steps::core_step))]
     pub fn begin_core(&mut self, alloc: Global, number: usize) -> Result<(), LitmusError>
         ensures { AnswersLine (seen_as result (λ _. state self.new)) number
             (core_step (state self.old)) }
@@ -85,7 +87,7 @@ impl Builder {
     }
 
     /// A line `fence`.
-    #[tactic(auto, unfolding(program::specs::Steps::fence_step))]
+    #[tactic(auto, unfolding(litmus::specs::Steps::fence_step))]
     pub fn fence(&mut self, number: usize) -> Result<(), LitmusError>
         ensures { AnswersLine (seen_as result (λ _. state self.new)) number
             (fence_step (state self.old)) }
@@ -119,7 +121,7 @@ impl Builder {
     }
 
     /// A line `ld`.
-    #[tactic(auto, unfolding(program::specs::Steps::load_step))]
+    #[tactic(auto, unfolding(litmus::specs::Steps::load_step))]
     pub fn load(&mut self, name: Name, number: usize) -> Result<(), LitmusError>
         ensures { AnswersLine (seen_as result (λ _. state self.new)) number
             (load_step (state self.old) name) }
@@ -130,7 +132,7 @@ impl Builder {
     }
 
     /// A line `st`, `swap` or `add`. The addresses are tested before the value.
-    #[tactic(auto, unfolding(program::specs::Steps::write_step))]
+    #[tactic(auto, unfolding(litmus::specs::Steps::write_step))]
     pub fn write(
         &mut self,
         write: WriteKind,
@@ -151,7 +153,7 @@ impl Builder {
     }
 
     /// A line `cas`. The addresses are tested before the values.
-    #[tactic(auto, unfolding(program::specs::Steps::compare_step))]
+    #[tactic(auto, unfolding(litmus::specs::Steps::compare_step))]
     pub fn compare(
         &mut self,
         name: Name,

@@ -4,8 +4,9 @@ ghost use Rattle.std.specs.Prelude.{◌≡◌};
 
 use crate::builder::Builder;
 use crate::line::{ParsedLine, parsed_line};
+use crate::refusals::{LineRefusal, LitmusError};
 use common::OutOfMemory;
-use program::{LineRefusal, LitmusError, Name, Program};
+use program::{Name, Program};
 use std::alloc::Global;
 use texts::{Number, ReadLines};
 
@@ -29,7 +30,7 @@ impl Drop for Reader {
 impl Reader {
     ghost use Rattle.std.specs.Prelude.{◌≡◌, ◌≤◌, ◌++◌, ◌∷◌, [], ℕ, IfOk, OnOk, length};
     ghost use Rattle.litmus.specs.Built.{draft, state};
-    ghost use Rattle.program.specs.Drafts.{drafted_program, filled, init_step, plain};
+    ghost use Rattle.litmus.specs.Drafts.{drafted_program, filled, init_step, plain};
     ghost use Rattle.texts.specs.Decimals.{IsValue};
     ghost use Rattle.program.specs.Parts.{IsProgram};
     ghost use Rattle.texts.specs.Reading.{AnswersLine, seen_as};
@@ -57,7 +58,7 @@ impl Reader {
     }
 
     // The value's size is tested before its name, and that it is 0 at last.
-    #[tactic(auto, unfolding(program::specs::Drafts::init_step))]
+    #[tactic(auto, unfolding(litmus::specs::Drafts::init_step))]
     fn init(&mut self, name: Name, value: Number, number: usize) -> Result<(), LitmusError>
         ensures { (n : ℕ) → IsValue value n →
             AnswersLine (seen_as result (λ _. draft self.new)) number
@@ -97,7 +98,7 @@ impl Reader {
 
 impl ReadLines for Reader {
     ghost use Rattle.std.specs.Prelude.{⊤};
-    ghost use Rattle.program.specs.Drafts.{Draft, step};
+    ghost use Rattle.litmus.specs.Drafts.{Draft, step};
     ghost use Rattle.litmus.specs.Built.{draft};
 
     type Refusal = LineRefusal;

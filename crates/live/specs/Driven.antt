@@ -1,7 +1,7 @@
 -- What threads that drive a machine give.
 use Rattle.std.specs.Prelude.{◌≡◌, ℕ, ⊤}
 use Rattle.program.specs.Parts.{Parts}
-use Rattle.machine.specs.declared.fault.Fault.TheVariants.{None}
+use Rattle.program.specs.declared.fault.Fault.TheVariants.{None}
 use Rattle.live.specs.declared.error.LiveError.{LiveError}
 use Rattle.live.specs.declared.error.LiveError.TheVariants.{Blocked, TraceFull, NoThread, Stranger}
 use Rattle.live.specs.Trace.{Trace}

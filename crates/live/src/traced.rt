@@ -28,10 +28,9 @@ impl Model for Traced {
 }
 
 impl Traced {
-    ghost use Rattle.std.specs.Prelude.{◌≡◌, ◌≤◌, ◌<◌, ◌↔◌, [], IsTrue, IfOk, IfErr, OnOk, OnErr, Ok, Err};
-    ghost use Rattle.std.specs.Prelude.{length};
+    ghost use Rattle.std.specs.Prelude.{◌≡◌, ◌≤◌, ◌<◌, ◌↔◌, [], IsTrue, IfOk, IfErr, OnOk, OnErr, Ok, Err, length};
     ghost use Rattle.recording.specs.Tso.{IsTsoOrder};
-    ghost use Rattle.machine.specs.declared.fault.Fault.TheVariants as fault;
+    ghost use Rattle.program.specs.declared.fault.Fault.TheVariants as fault;
     ghost use Rattle.machine.specs.Configuration.{recording_of, IsAtEnd};
     ghost use Rattle.machine.specs.Taken.{begun};
     ghost use Rattle.live.specs.Trace.{Trace, IsTrace, IsEnded};

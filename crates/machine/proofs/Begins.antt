@@ -1,10 +1,8 @@
 -- What a new machine holds.
-use Rattle.std.proofs.Common.{◌≡◌, ◌<◌, ◌≤◌, ◌+◌, ◌-◌, inl, inr, ℕ, zero, suc, Option, None, List, [], ◌∷◌}
-use Rattle.std.proofs.Common.{◌++◌, map, length, get_or, slice_index_or, replicate, arith, refl, sym, ap}
-use Rattle.std.proofs.Common.{subst, ◌∙◌}
+use Rattle.std.proofs.Common.{◌≡◌, ◌<◌, ◌≤◌, ◌+◌, ◌-◌, inl, inr, ℕ, zero, suc, Option, None, List, [], ◌∷◌, ◌++◌, map}
+use Rattle.std.proofs.Common.{length, get_or, slice_index_or, replicate, arith, refl, sym, ap, subst, ◌∙◌}
 use Rattle.std.specs.List.{All, sum_by}
-use Rattle.std.proofs.lemmas.List.{length-replicate, get_or_append_left, length-map}
-use Rattle.std.proofs.lemmas.List.{get_or-append_right}
+use Rattle.std.proofs.lemmas.List.{length-replicate, get_or_append_left, length-map, get_or-append_right}
 use Rattle.std.proofs.lemmas.List.Elements.{All-replicate}
 use Rattle.std.proofs.lemmas.List.Folds.{sum_by-replicate}
 use Rattle.std.proofs.lemmas.Bool.{cases_lt}
@@ -14,9 +12,9 @@ use Rattle.program.specs.Parts.{Parts, IsWithin, op_count}
 use Rattle.write_buffer.specs.Buffer.{Buffer}
 use Rattle.core_unit.specs.Progress.{Progress}
 use Rattle.machine.specs.Configuration.{BoundedItems, AreUnits, BlankSize, IsSound, IsEntry, IsMachine, state_from}
-use Rattle.machine.specs.declared.fault.Fault.{Fault}
-use Rattle.machine.specs.State.{first_event, opening}
 use Rattle.machine.specs.Configuration.{places_of}
+use Rattle.program.specs.declared.fault.Fault.{Fault}
+use Rattle.machine.specs.State.{first_event, opening}
 use Rattle.moesi.specs.State as moesi
 use Rattle.moesi.specs.Block.{block_with}
 use Rattle.machine.proofs.Opening.{get_or_same}

@@ -22,10 +22,10 @@ use Rattle.write_buffer.specs.Buffer.{youngest, or_else}
 use Rattle.machine.specs.declared.step.Step.{Step}
 use Rattle.moesi.specs.State as moesi
 use Rattle.moesi.proofs.OriginLemmas.{every_copy_was_there, every_write_adds_itself}
-use Rattle.machine.specs.declared.fault.Fault.{Fault}
+use Rattle.program.specs.declared.fault.Fault.{Fault}
 use Rattle.machine.specs.Faults.{forwarded}
-use Rattle.machine.specs.State.{State, place_of, buffer_of, line_copy, first_event, event_of, recorded}
-use Rattle.machine.specs.State.{opening, IsComplete}
+use Rattle.machine.specs.State.{State, place_of, buffer_of, line_copy, first_event, recorded, opening, IsComplete}
+use Rattle.program_events.specs.ProgramOf.{event_of}
 use Rattle.machine.specs.Step.{with_caches, forwarded_or_read, looked_up, rmw_value, run}
 use Rattle.machine.specs.Orderly.{EveryRunIsWellFormed}
 use Rattle.machine.proofs.Cached.{read_has, written_read, opening_has}
@@ -41,7 +41,7 @@ use Rattle.machine.proofs.Steady.{IsSteady, next_within, drain_steady, store_ste
 use Rattle.machine.proofs.Steady.{transact_steady}
 use Rattle.machine.proofs.Opening.{nothing_executed, opening_steady}
 use Rattle.machine.specs.RecordedLaws.{event_is, count_is}
-use Rattle.machine.specs.ProgramLaws.{value_same}
+use Rattle.program_events.specs.ProgramLaws.{value_same}
 use Rattle.machine.proofs.Complete.{list_is, writes_is, reads_is, all_done, complete_listed}
 
 -- the value is the initial one, or the source is an executed write of it to the address

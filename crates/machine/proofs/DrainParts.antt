@@ -1,7 +1,6 @@
 -- What a drain does to the parts of a machine.
-use Rattle.std.proofs.Common.{◌≡◌, ◌<◌, ◌+◌, ℕ, Option, Some, Ok, List, [], ◌∷◌, ◌++◌, length}
-use Rattle.std.proofs.Common.{slice_get, slice_index_or, slice_set, arith, refl, sym, ap, subst, ◌∙◌}
-use Rattle.std.proofs.Common.{length-set, length-append}
+use Rattle.std.proofs.Common.{◌≡◌, ◌<◌, ◌+◌, ℕ, Option, Some, Ok, List, [], ◌∷◌, ◌++◌, length, slice_get}
+use Rattle.std.proofs.Common.{slice_index_or, slice_set, arith, refl, sym, ap, subst, ◌∙◌, length-set, length-append}
 use Rattle.std.specs.List.{All, sum_by}
 use Rattle.std.proofs.lemmas.List.Elements.{All-set}
 use Rattle.std.proofs.lemmas.List.Sums.{sum_by-set}
@@ -13,16 +12,15 @@ use Rattle.program.specs.Parts.{Parts, op_count}
 use Rattle.write_buffer.specs.declared.entry.Entry.{Entry}
 use Rattle.write_buffer.specs.Buffer.{Buffer}
 use Rattle.core_unit.specs.Progress.{Progress}
-use Rattle.machine.specs.declared.fault.Fault.{Fault}
+use Rattle.program.specs.declared.fault.Fault.{Fault}
 use Rattle.machine.specs.Faults.{draining, without}
 use Rattle.machine.specs.declared.step.Step.TheVariants.{Drain}
 use Rattle.machine.specs.Step.{step_result}
 use Rattle.machine.specs.Configuration.{BoundedItems, IsSound, IsEntry, state_from, places_of}
 use Rattle.machine.proofs.Removed.{length_without, all_without}
 use Rattle.machine.proofs.PlaceLemmas.{places_within}
-use Rattle.machine.proofs.Parts.{rooms_pushed, lengths_pushed}
-use Rattle.machine.proofs.Parts.{list_seen, list_short, list_room, buffer_there, buffer_seen}
-use Rattle.machine.proofs.Parts.{capacity_is, waiting_within}
+use Rattle.machine.proofs.Parts.{rooms_pushed, lengths_pushed, list_seen, list_short, list_room, buffer_there}
+use Rattle.machine.proofs.Parts.{buffer_seen, capacity_is, waiting_within}
 
 module _ {p : Parts} {capacity : ℕ} {units : List Progress} {buffers : List Buffer} {caches : moesi.CacheState}
     {writes : List (BoundedItems ℕ)} {reads : List (ℕ × Option ℕ)} {done : BoundedItems ℕ}

@@ -7,7 +7,8 @@ use Rattle.program.specs.declared.op.Op.{Op}
 use Rattle.program.specs.declared.op.Op.TheVariants.{Fence}
 use Rattle.write_buffer.specs.declared.entry.Entry.{Entry}
 use Rattle.recording.specs.Event.{written_address}
-use Rattle.machine.specs.State.{State, place_of, buffer_of, first_event, event_of}
+use Rattle.machine.specs.State.{State, place_of, buffer_of, first_event}
+use Rattle.program_events.specs.ProgramOf.{event_of}
 use Rattle.machine.proofs.Seen.{IsCounted, IsOrdered, seen, IsNewest}
 use Rattle.machine.proofs.Counting.{counted_kept, Executes, Issues, issue_counts, Performs, perform_counts}
 use Rattle.machine.proofs.Ordering.{ordered_kept, issue_orders, perform_orders}

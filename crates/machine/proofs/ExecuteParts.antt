@@ -18,17 +18,17 @@ use Rattle.core_unit.specs.Progress.{Progress}
 use Rattle.recording.specs.Event.{value_written}
 use Rattle.moesi.specs.State as moesi
 use Rattle.moesi.specs.Lines.{is_exclusive}
-use Rattle.machine.specs.declared.fault.Fault.{Fault}
+use Rattle.program.specs.declared.fault.Fault.{Fault}
 use Rattle.machine.specs.Faults.{forwarded, may_fence, may_rmw}
-use Rattle.machine.specs.State.{first_event, event_of}
+use Rattle.machine.specs.State.{first_event}
+use Rattle.program_events.specs.ProgramOf.{event_of}
 use Rattle.machine.specs.Step.{exec, read_modify_written, read_unmodified, IsAt, forwarded_or_read}
 use Rattle.machine.specs.Configuration.{BoundedItems, IsSound, IsEntry, state_from, places_of}
 use Rattle.recording.specs.PlacedLaws.{placed_at, placed_total}
 use Rattle.machine.proofs.PlaceLemmas.{places_within}
 use Rattle.machine.proofs.Transacted.{transacted_sound}
-use Rattle.machine.proofs.Parts.{lengths_more, rooms_pushed, lengths_pushed}
-use Rattle.machine.proofs.Parts.{list_seen, list_short, list_room, unit_there}
-use Rattle.machine.proofs.Parts.{buffer_there, place_at, first_at, buffer_seen, capacity_is, waiting_within}
+use Rattle.machine.proofs.Parts.{lengths_more, rooms_pushed, lengths_pushed, list_seen, list_short, list_room}
+use Rattle.machine.proofs.Parts.{unit_there, buffer_there, place_at, first_at, buffer_seen, capacity_is, waiting_within}
 
 -- the places, where a core went on
 abbrev pub places_on : List Progress → ℕ → List ℕ

@@ -1,8 +1,7 @@
 -- What every step without fault keeps of the sizes of a state, so that every such run leads to one that is
 -- orderly.
-use Rattle.std.proofs.Common.{◌≡◌, ◌<◌, ◌≤◌, ◌+◌, inl, inr, ℕ, cond, Ok, List, [], ◌∷◌}
-use Rattle.std.proofs.Common.{◌++◌, take, length, get_or, slice_set, arith, ap}
-use Rattle.std.proofs.Common.{◌∙◌, get_or-set_same, get_or-set_other, length-set, length-append}
+use Rattle.std.proofs.Common.{◌≡◌, ◌<◌, ◌≤◌, ◌+◌, inl, inr, ℕ, cond, Ok, List, [], ◌∷◌, ◌++◌, take, length, get_or}
+use Rattle.std.proofs.Common.{slice_set, arith, ap, ◌∙◌, get_or-set_same, get_or-set_other, length-set, length-append}
 use Rattle.std.specs.List.{All, sum, sum_by, count_by}
 use Rattle.std.proofs.lemmas.List.{length-replicate}
 use Rattle.std.proofs.lemmas.List.Folds.{sum_by-replicate}
@@ -13,11 +12,12 @@ use Rattle.program.specs.declared.op.Op.TheVariants.{St, Fence}
 use Rattle.program.specs.Parts.{IsWithin}
 use Rattle.write_buffer.specs.declared.entry.Entry.{Entry}
 use Rattle.moesi.specs.State as moesi
-use Rattle.machine.specs.declared.fault.Fault.TheVariants as fault
+use Rattle.program.specs.declared.fault.Fault.TheVariants as fault
 use Rattle.machine.specs.State.{State, place_of, buffer_of, opening}
 use Rattle.machine.specs.declared.step.Step.{Step}
 use Rattle.machine.specs.Step.{run}
-use Rattle.machine.specs.Orderly.{placed_op, is_st, IsOrderly, EveryStateIsOrderly}
+use Rattle.program_events.specs.Operations.{placed_op, is_st}
+use Rattle.machine.specs.Orderly.{IsOrderly, EveryStateIsOrderly}
 use Rattle.machine.proofs.DrainEvents.{drained_state}
 use Rattle.machine.proofs.ExecuteEvents.{IsNext}
 use Rattle.machine.proofs.Rows.{IsKept, stored_state, run_kept}

@@ -11,8 +11,9 @@ use Rattle.moesi.specs.State as moesi
 use Rattle.moesi.specs.Coherent.{IsCoherent}
 use Rattle.moesi.proofs.CacheLemmas.{every_call_keeps_coherence, every_transaction_keeps_current}
 use Rattle.moesi.proofs.CacheLemmas.{every_write_sets_current}
-use Rattle.machine.specs.declared.fault.Fault.TheVariants as fault
-use Rattle.machine.specs.State.{State, buffer_of, line_copy, event_of}
+use Rattle.program.specs.declared.fault.Fault.TheVariants as fault
+use Rattle.machine.specs.State.{State, buffer_of, line_copy}
+use Rattle.program_events.specs.ProgramOf.{event_of}
 use Rattle.machine.specs.Step.{with_read, with_buffer, forwarded_or_read, looked_up, rmw_value}
 use Rattle.machine.proofs.Cached.{written_large, transaction_large, written_read}
 use Rattle.machine.proofs.Seen.{seen, IsOrdered, IsNewest}

@@ -11,7 +11,8 @@ use Rattle.recording.specs.OrderLaws.{times_append, cases_times, before_in_right
 use Rattle.program.specs.declared.op.Op.{Op}
 use Rattle.write_buffer.specs.declared.entry.Entry.{Entry}
 use Rattle.write_buffer.specs.Buffer.{youngest, or_else}
-use Rattle.machine.specs.State.{State, event_of}
+use Rattle.machine.specs.State.{State}
+use Rattle.program_events.specs.ProgramOf.{event_of}
 use Rattle.machine.proofs.Seen.{IsNewest}
 use Rattle.recording.specs.Event.{written_address}
 use Rattle.machine.proofs.Static.{static_of, done_by}

@@ -6,8 +6,8 @@ use Rattle.program.specs.declared.op.Op.{Op}
 use Rattle.program.specs.declared.op.Op.TheVariants.{Fence, Cas}
 use Rattle.program.specs.Parts.{Parts}
 use Rattle.recording.specs.declared.event.Event.TheVariants.{R, C}
-use Rattle.machine.specs.State.{State, event_of, cores_from, recorded}
-use Rattle.machine.specs.ProgramOf.{Makes, AreOpsOf, IsProgramOf}
+use Rattle.machine.specs.State.{State, cores_from, recorded}
+use Rattle.program_events.specs.ProgramOf.{event_of, Makes, AreOpsOf, IsProgramOf}
 use Rattle.machine.specs.RecordedLaws.{events_length, events_at, cores_length}
 
 -- an operation makes the event that it made

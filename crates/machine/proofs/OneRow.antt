@@ -3,8 +3,8 @@ use Rattle.std.proofs.Common.{◌≡◌, ℕ, false, cond, Option, Some, None, R
 use Rattle.std.proofs.Common.{slice_get, slice_index_or, nat_lt, length}
 use Rattle.program.specs.declared.op.Op.{Op}
 use Rattle.program.specs.declared.op.Op.TheVariants.{Ld, Fence, Swap, Add, Cas}
-use Rattle.machine.specs.declared.fault.Fault.{Fault}
-use Rattle.machine.specs.declared.fault.Fault.TheVariants as fault
+use Rattle.program.specs.declared.fault.Fault.{Fault}
+use Rattle.program.specs.declared.fault.Fault.TheVariants as fault
 use Rattle.machine.specs.declared.step.Step.TheVariants.{Exec, Drain, GetM}
 use Rattle.machine.specs.declared.blocked.Blocked.{Blocked}
 use Rattle.machine.specs.declared.blocked.Blocked.TheVariants.{B8}

@@ -16,7 +16,7 @@ use Rattle.moesi.specs.Block.{block_with}
 use Rattle.moesi.proofs.CacheLemmas.{opening_with_is_coherent}
 use Rattle.recording.specs.PlacedLaws.{located, placed_total}
 use Rattle.machine.proofs.PlaceLemmas.{event_after, event_op}
-use Rattle.machine.specs.ProgramLaws.{same_kind, has_address}
+use Rattle.program_events.specs.ProgramLaws.{same_kind, has_address}
 use Rattle.std.proofs.lemmas.Option.{same_Some}
 use Rattle.machine.proofs.Static.{static_of, snapshot_of, placed_op}
 use Rattle.machine.proofs.Newest.{last_of, last_nil}

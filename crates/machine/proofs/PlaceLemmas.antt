@@ -1,6 +1,5 @@
 -- Lemmas on where the events of a program stand on their cores.
-use Rattle.std.proofs.Common.{◌≡◌, ◌<◌, ◌≤◌, ◌+◌, ℕ, suc, List, [], ◌∷◌, length, get_or, arith}
-use Rattle.std.proofs.Common.{sym, ap, subst, ◌∙◌}
+use Rattle.std.proofs.Common.{◌≡◌, ◌<◌, ◌≤◌, ◌+◌, ℕ, suc, List, [], ◌∷◌, length, get_or, arith, sym, ap, subst, ◌∙◌}
 use Rattle.std.specs.List.{sum, sum_by}
 use Rattle.std.proofs.lemmas.List.Sums.{sum_by-cons}
 use Rattle.program.specs.declared.op.Op.{Op}
@@ -8,7 +7,7 @@ use Rattle.program.specs.declared.op.Op.TheVariants.{Fence}
 use Rattle.recording.specs.Execution.{placed_from}
 use Rattle.recording.specs.PlacedLaws.{placed_at, located}
 use Rattle.machine.specs.State.{first_event}
-use Rattle.machine.specs.Orderly.{placed_op}
+use Rattle.program_events.specs.Operations.{placed_op}
 
 -- each core is within its operations, so all together are
 pub places_within : (places : List ℕ) (p : List (List Op)) → length places ≡ length p

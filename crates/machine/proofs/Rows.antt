@@ -13,13 +13,14 @@ use Rattle.moesi.specs.State as moesi
 use Rattle.moesi.specs.Laws.{IsTransaction, IsAnyTransaction}
 use Rattle.moesi.specs.declared.error.CacheError.{CacheError}
 use Rattle.write_buffer.specs.declared.entry.Entry.{Entry}
-use Rattle.machine.specs.declared.fault.Fault.{Fault}
-use Rattle.machine.specs.declared.fault.Fault.TheVariants as fault
+use Rattle.program.specs.declared.fault.Fault.{Fault}
+use Rattle.program.specs.declared.fault.Fault.TheVariants as fault
 use Rattle.machine.specs.declared.step.Step.{Step}
 use Rattle.machine.specs.declared.step.Step.TheVariants.{Exec, Drain, GetS, GetM, Put}
 use Rattle.machine.specs.declared.blocked.Blocked.{Blocked}
 use Rattle.machine.specs.declared.blocked.Blocked.TheVariants.{B4, B5, B7, B8}
-use Rattle.machine.specs.State.{State, place_of, buffer_of, line_copy, first_event, event_of}
+use Rattle.machine.specs.State.{State, place_of, buffer_of, line_copy, first_event}
+use Rattle.program_events.specs.ProgramOf.{event_of}
 use Rattle.machine.specs.Step.{advanced, performed, with_read, written, with_buffer, with_caches, or_blocked}
 use Rattle.machine.specs.Step.{looked_up, read_modify_written, read_unmodified}
 use Rattle.machine.specs.Step.{rmw_value, exec, exec_next, drained_at, has, step_result, after, run}

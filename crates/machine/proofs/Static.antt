@@ -1,6 +1,5 @@
 -- What a program fixes of its events, and a state as lists of event numbers.
-use Rattle.std.proofs.Common.{◌≡◌, ◌<◌, ◌≤◌, ◌+◌, ℕ, None, List, []}
-use Rattle.std.proofs.Common.{map, length, get_or, arith, ap, ◌∙◌}
+use Rattle.std.proofs.Common.{◌≡◌, ◌<◌, ◌≤◌, ◌+◌, ℕ, None, List, [], map, length, get_or, arith, ap, ◌∙◌}
 use Rattle.std.specs.List.{sum_by}
 use Rattle.std.proofs.lemmas.List.Sums.{sum_by_more, sum_by-take-le, sum-map}
 use Rattle.std.proofs.lemmas.List.{get_or-map, length-map}
@@ -8,8 +7,9 @@ use Rattle.recording.specs.Execution.{placed_from}
 use Rattle.recording.specs.declared.event.Event.{Event}
 use Rattle.recording.specs.Event.{written_address}
 use Rattle.program.specs.declared.op.Op.{Op}
-use Rattle.machine.specs.State.{State, place_of, buffer_of, first_event, event_of}
-pub use Rattle.machine.specs.Orderly.{placed_op, is_st, is_ld, op_reads}
+use Rattle.machine.specs.State.{State, place_of, buffer_of, first_event}
+use Rattle.program_events.specs.ProgramOf.{event_of}
+pub use Rattle.program_events.specs.Operations.{placed_op, is_st, is_ld, op_reads}
 use Rattle.machine.proofs.Seen.{Static, Snapshot}
 
 -- what event e did, as far as s goes

@@ -12,15 +12,15 @@ use Rattle.recording.specs.OrderLaws.{times_append, cases_times}
 use Rattle.write_buffer.specs.declared.entry.Entry.{Entry}
 use Rattle.moesi.specs.State as moesi
 use Rattle.moesi.specs.Laws.{IsAnyTransaction}
-use Rattle.machine.specs.declared.fault.Fault.{Fault}
-use Rattle.machine.specs.State.{State, place_of, buffer_of, line_copy, event_of}
+use Rattle.program.specs.declared.fault.Fault.{Fault}
+use Rattle.machine.specs.State.{State, place_of, buffer_of, line_copy}
+use Rattle.program_events.specs.ProgramOf.{event_of}
 use Rattle.machine.specs.Step.{performed, with_read, written, with_buffer, with_caches, rmw_value}
 use Rattle.machine.proofs.Cached.{written_large, any_large}
 use Rattle.machine.proofs.Seen.{seen, IsCounted, not_seen, not_performed}
 use Rattle.machine.proofs.Static.{static_of, snapshot_of, placed_op, done_by, op_reads}
 use Rattle.machine.proofs.DrainEvents.{AreStores, stores_out, drained_state, drain_counted}
-use Rattle.machine.proofs.ExecuteEvents.{IsNext, next_placed, next_event, next_old, perform_counted}
-use Rattle.machine.proofs.ExecuteEvents.{issue_counted}
+use Rattle.machine.proofs.ExecuteEvents.{IsNext, next_placed, next_event, next_old, perform_counted, issue_counted}
 use Rattle.machine.proofs.WriteLists.{AreListed, listed_given, listed_written, listed_performed}
 use Rattle.machine.proofs.Rows.{IsRmw, IsLook, stored_state, loaded_state, rmw_state}
 

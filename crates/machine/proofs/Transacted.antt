@@ -6,7 +6,7 @@ use Rattle.write_buffer.specs.Buffer.{Buffer}
 use Rattle.core_unit.specs.Progress.{Progress}
 use Rattle.moesi.specs.State as moesi
 use Rattle.machine.specs.declared.blocked.Blocked.TheVariants.{B7, B8}
-use Rattle.machine.specs.declared.fault.Fault.{Fault}
+use Rattle.program.specs.declared.fault.Fault.{Fault}
 use Rattle.machine.specs.declared.step.Transaction.{Transaction}
 use Rattle.machine.specs.declared.step.Transaction.TheVariants.{GetS, GetM, Put}
 use Rattle.machine.specs.Faults.{transacted}

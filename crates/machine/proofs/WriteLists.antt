@@ -19,8 +19,9 @@ use Rattle.moesi.specs.State as moesi
 use Rattle.moesi.specs.declared.error.CacheError.{CacheError}
 use Rattle.moesi.specs.Coherent.{IsCoherent}
 use Rattle.moesi.proofs.CacheLemmas.{every_read_is_current}
-use Rattle.machine.specs.declared.fault.Fault.TheVariants as fault
-use Rattle.machine.specs.State.{State, buffer_of, current_copy, event_of}
+use Rattle.program.specs.declared.fault.Fault.TheVariants as fault
+use Rattle.machine.specs.State.{State, buffer_of, current_copy}
+use Rattle.program_events.specs.ProgramOf.{event_of}
 use Rattle.machine.specs.Step.{performed, written, with_read, forwarded_or_read, looked_up}
 use Rattle.machine.proofs.Seen.{seen, IsNewest}
 use Rattle.machine.proofs.Static.{static_of, snapshot_of, placed_op, done_by}

@@ -1,13 +1,11 @@
 -- What each fault changes: one row of the table of steps, and nothing else.
-use Rattle.std.specs.Prelude.{◌==◌, ◌+◌, ◌-◌, ◌++◌, ℕ, Bool, true, Option, None, Result, List, length, take}
-use Rattle.std.specs.Prelude.{drop}
+use Rattle.std.specs.Prelude.{◌==◌, ◌+◌, ◌-◌, ◌++◌, ℕ, Bool, true, Option, None, Result, List, length, take, drop}
 use Rattle.write_buffer.specs.declared.entry.Entry.{Entry}
 use Rattle.write_buffer.specs.Buffer.{youngest}
 use Rattle.moesi.specs.State as moesi
 use Rattle.moesi.specs.declared.error.CacheError.{CacheError}
-use Rattle.machine.specs.declared.fault.Fault.{Fault}
-use Rattle.machine.specs.declared.fault.Fault.TheVariants.{NoBypass, YoungestFirst, OpenFence, StaleShare}
-use Rattle.machine.specs.declared.fault.Fault.TheVariants.{EarlyRmw}
+use Rattle.program.specs.declared.fault.Fault.{Fault}
+use Rattle.program.specs.declared.fault.Fault.TheVariants.{NoBypass, YoungestFirst, OpenFence, StaleShare, EarlyRmw}
 use Rattle.machine.specs.declared.step.Transaction.{Transaction}
 use Rattle.machine.specs.declared.step.Transaction.TheVariants.{GetS, GetM, Put}
 

@@ -5,9 +5,6 @@ pub mod Step
 pub mod RunLaws
 pub mod Taken
 pub mod Orderly
-pub mod FirstUseLaws
-pub mod ProgramOf
-pub mod ProgramLaws
 pub mod OneRow
 pub mod Configuration
 pub mod ScriptLine

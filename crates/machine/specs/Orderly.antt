@@ -1,43 +1,20 @@
 -- What every run keeps.
-use Rattle.std.specs.Prelude.{◌≡◌, ◌<◌, ◌≤◌, ◌+◌, ◌&&◌, ℕ, Bool, true, false, Option, Some, None, ⊤}
-use Rattle.std.specs.Prelude.{List, [], ◌∷◌, ◌++◌, map, take}
-use Rattle.std.specs.Prelude.{length, slice_index_or, sum, sum_by, count_by, All}
+use Rattle.std.specs.Prelude.{◌≡◌, ◌<◌, ◌≤◌, ◌+◌, ◌&&◌, ℕ, false, ⊤, List, [], ◌∷◌, ◌++◌, map, take, length}
+use Rattle.std.specs.Prelude.{slice_index_or, sum, sum_by, count_by, All}
 use Rattle.program.specs.declared.op.Op.{Op}
-use Rattle.program.specs.declared.op.Op.TheVariants.{St, Ld, Fence, Swap, Add, Cas}
+use Rattle.program.specs.declared.op.Op.TheVariants.{St}
 use Rattle.program.specs.Parts.{IsWithin}
 use Rattle.recording.specs.Execution.{placed_from}
 use Rattle.recording.specs.Order.{times, Before}
 use Rattle.recording.specs.Tso.{IsTsoOrder, IsWellFormed}
-use Rattle.machine.specs.declared.fault.Fault.{Fault}
+use Rattle.program_events.specs.Operations.{placed_op, is_st, is_ld}
+use Rattle.program.specs.declared.fault.Fault.{Fault}
 use Rattle.write_buffer.specs.declared.entry.Entry.{Entry}
 use Rattle.moesi.specs.State as moesi
-use Rattle.machine.specs.declared.fault.Fault.TheVariants as fault
+use Rattle.program.specs.declared.fault.Fault.TheVariants as fault
 use Rattle.machine.specs.declared.step.Step.{Step}
 use Rattle.machine.specs.State.{State, place_of, buffer_of, first_event, recorded, opening, IsComplete}
 use Rattle.machine.specs.Step.{run}
-
--- the core and the operation of event e
-abbrev pub placed_op : List (List Op) → ℕ → ℕ × Op
-placed_op p e = slice_index_or (placed_from 0 p) e (0, Fence)
-
--- whether an operation is a plain store
-abbrev pub is_st : Op → Bool
-is_st (St a v) = true
-is_st op = false
-
--- whether it is a plain load
-abbrev pub is_ld : Op → Bool
-is_ld (Ld a) = true
-is_ld op = false
-
--- the address that an operation reads, if it reads
-abbrev pub op_reads : Op → Option ℕ
-op_reads (St a v) = None
-op_reads (Ld a) = Some a
-op_reads Fence = None
-op_reads (Swap a v) = Some a
-op_reads (Add a v) = Some a
-op_reads (Cas a e v) = Some a
 
 -- event e is one of the program's, and its core has executed it
 abbrev pub IsExecuted : List (List Op) → State → ℕ → Type 0

@@ -10,8 +10,9 @@ use Rattle.recording.specs.Execution.{placed_from, event_count, event_at, core_o
 use Rattle.recording.specs.PlacedLaws.{placed_here, placed_after, placed_total}
 use Rattle.program.specs.declared.op.Op.{Op}
 use Rattle.program.specs.declared.op.Op.TheVariants.{Fence}
-use Rattle.machine.specs.State.{State, event_of, events_from, cores_from, recorded}
-use Rattle.machine.specs.Orderly.{placed_op}
+use Rattle.machine.specs.State.{State, events_from, cores_from, recorded}
+use Rattle.program_events.specs.ProgramOf.{event_of}
+use Rattle.program_events.specs.Operations.{placed_op}
 
 -- the events of the recording are those of the program's operations
 pub events_length : (e : ℕ) (ops : List Op) (reads : List (ℕ × Option ℕ))

@@ -2,7 +2,7 @@
 use Rattle.std.proofs.Common.{◌≡◌, ℕ, Bool, true, false, cond, Result, Ok, Err, List, [], ◌∷◌, ◌++◌, length, refl}
 use Rattle.std.proofs.lemmas.Bool.{lt-ltb}
 use Rattle.program.specs.declared.op.Op.{Op}
-use Rattle.machine.specs.declared.fault.Fault.{Fault}
+use Rattle.program.specs.declared.fault.Fault.{Fault}
 use Rattle.machine.specs.declared.step.Step.{Step}
 use Rattle.machine.specs.declared.step.Step.TheVariants.{Exec}
 use Rattle.machine.specs.declared.blocked.Blocked.{Blocked}

@@ -3,8 +3,7 @@ use Rattle.std.specs.Prelude.{◌<◌, ◌++◌, ◌∷◌, [], ℕ, List, nat_l
 use Rattle.std.specs.Prelude.{Result, Ok, Err, if◌then◌else◌, codes, decimal}
 use Rattle.common.specs.declared.limits.TheConstants.{MAX_STEPS}
 use Rattle.program.specs.declared.name.Name.{Name}
-use Rattle.program.specs.Names.{name_eq, name_text}
-use Rattle.program.specs.Spelling.{name_at}
+use Rattle.program.specs.Names.{name_eq, name_text, name_at}
 use Rattle.std.specs.List.{flat_map}
 use Rattle.program.specs.Parts.{Parts}
 use Rattle.texts.specs.Reading.{Reading, read_from}

@@ -1,12 +1,11 @@
 -- What a machine of store buffers and caches has reached, and the recording of it.
-use Rattle.std.specs.Prelude.{◌+◌, ◌%◌, ◌^◌, ◌≡◌, ◌==◌, ℕ, if◌then◌else◌, Option, None, List, [], ◌∷◌, map}
-use Rattle.std.specs.Prelude.{length, slice_index, slice_index_or, sum, take, replicate}
+use Rattle.std.specs.Prelude.{◌+◌, ◌≡◌, ℕ, Option, None, List, [], ◌∷◌, map, length, slice_index, slice_index_or}
+use Rattle.std.specs.Prelude.{sum, take, replicate}
 use Rattle.program.specs.declared.op.Op.{Op}
-use Rattle.program.specs.declared.op.Op.TheVariants.{St, Ld, Fence, Swap, Add, Cas}
 use Rattle.program.specs.Parts.{op_count}
 use Rattle.recording.specs.declared.event.Event.{Event}
-use Rattle.recording.specs.declared.event.Event.TheVariants.{L, S, R, C, F}
 use Rattle.recording.specs.Execution.{Execution}
+use Rattle.program_events.specs.ProgramOf.{event_of}
 use Rattle.write_buffer.specs.declared.entry.Entry.{Entry}
 use Rattle.moesi.specs.State as moesi
 
@@ -46,15 +45,6 @@ line_copy s c a = moesi.copy_of s.caches c a
 -- the number of the first event of core c
 abbrev pub first_event : List (List Op) → ℕ → ℕ
 first_event p c = sum (take c (map (λ ops. length ops) p))
-
--- the event that an operation makes, from the value that it read and its source
-abbrev pub event_of : Op → ℕ × Option ℕ → Event
-event_of (St a v) d = S a v
-event_of (Ld a) d = L a d.0 d.1
-event_of Fence d = F
-event_of (Swap a v) d = R a d.0 d.1 v
-event_of (Add a v) d = R a d.0 d.1 ((d.0 + v) % 2 ^ 32)
-event_of (Cas a e v) d = if d.0 == e then R a d.0 d.1 v else C a d.0 d.1
 
 -- the events of one core, of which the first has number e
 abbrev pub events_from : ℕ → List Op → List (ℕ × Option ℕ) → List Event

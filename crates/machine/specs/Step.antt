@@ -1,8 +1,7 @@
 -- One step of the machine: the first guard that is false, else one effect. The words of a fault
 -- say what it changes.
-use Rattle.std.specs.Prelude.{◌≡◌, ◌+◌, ◌<◌, ◌&&◌, ◌==◌, ℕ, Bool, nat_lt, if◌then◌else◌, Option, Some, None}
-use Rattle.std.specs.Prelude.{Result, Ok, Err, List, [], ◌∷◌, ◌++◌, length, slice_index_or, slice_set}
-use Rattle.std.specs.Prelude.{slice_get}
+use Rattle.std.specs.Prelude.{◌≡◌, ◌+◌, ◌<◌, ◌&&◌, ◌==◌, ℕ, Bool, nat_lt, if◌then◌else◌, Option, Some, None, Result, Ok}
+use Rattle.std.specs.Prelude.{Err, List, [], ◌∷◌, ◌++◌, length, slice_index_or, slice_set, slice_get}
 use Rattle.program.specs.declared.op.Op.{Op}
 use Rattle.program.specs.declared.op.Op.TheVariants.{St, Ld, Fence, Swap, Add, Cas}
 use Rattle.write_buffer.specs.declared.entry.Entry.{Entry}
@@ -14,10 +13,11 @@ use Rattle.machine.specs.declared.blocked.Blocked.TheVariants.{B1, B2, B3, B4, B
 use Rattle.recording.specs.Event.{value_written}
 use Rattle.moesi.specs.State as moesi
 use Rattle.moesi.specs.Lines.{is_exclusive}
-use Rattle.machine.specs.declared.fault.Fault.{Fault}
+use Rattle.program.specs.declared.fault.Fault.{Fault}
 use Rattle.machine.specs.Faults.{forwarded, draining, without, may_fence, may_rmw, transacted}
 use Rattle.moesi.specs.declared.error.CacheError.{CacheError}
-use Rattle.machine.specs.State.{State, place_of, buffer_of, line_copy, first_event, event_of}
+use Rattle.machine.specs.State.{State, place_of, buffer_of, line_copy, first_event}
+use Rattle.program_events.specs.ProgramOf.{event_of}
 
 -- Effects, each on its part of the state
 

@@ -3,7 +3,7 @@
 ghost use Rattle.std.specs.Prelude.{ℕ, List};
 ghost use Rattle.program.specs.declared.op.Op.{Op};
 ghost use Rattle.machine.specs.declared.step.Step.{Step};
-ghost use Rattle.machine.specs.declared.fault.Fault.{Fault};
+ghost use Rattle.program.specs.declared.fault.Fault.{Fault};
 ghost use Rattle.machine.specs.OneRow.{EveryFaultChangesOneRow};
 ghost use Rattle.machine.specs.Orderly.{EveryRunIsTso, EveryRunIsWellFormed, EveryStateIsOrderly};
 

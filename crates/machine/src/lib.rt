@@ -19,10 +19,9 @@ mod table;
 mod transactions;
 
 pub use blocked::Blocked;
-pub use fault::Fault;
 pub use law::{every_run_is_tso, every_state_is_orderly};
 pub use machine::{Machine, Unfinished};
-pub use record::event_of;
+pub use program::Fault;
 pub use script::parse_steps;
 pub use script_refusal::{StepRefusal, StepsError};
 pub use script_writing::steps_text;

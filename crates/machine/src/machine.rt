@@ -3,11 +3,10 @@
 use crate::blank::Blank;
 use crate::bounded::BoundedList;
 use crate::construction::{bounded_lists, buffers_of, units_of};
-use crate::fault::Fault;
 use common::{Addr, CoreId, EventId, OutOfMemory};
 use core_unit::CoreUnit;
 use moesi::{Caches, Line};
-use program::{Op, Program};
+use program::{Fault, Op, Program};
 use recording::Recording;
 use std::alloc::Global;
 use std::marker::Model;
@@ -61,10 +60,10 @@ impl Machine {
     ghost use Rattle.recording.specs.Recording.{IsShortRecording};
     ghost use Rattle.recording.specs.Tso.{IsTsoOrder};
     ghost use Rattle.moesi.specs.State.{line_of, memory_of};
-    ghost use Rattle.machine.specs.declared.fault.Fault.TheVariants as fault;
+    ghost use Rattle.program.specs.declared.fault.Fault.TheVariants as fault;
     ghost use Rattle.machine.specs.State.{opening, place_of, buffer_of, IsDone};
     ghost use Rattle.machine.specs.Configuration.{recording_of, next_event, IsAtEnd};
-    ghost use Rattle.machine.specs.ProgramOf.{IsProgramOf};
+    ghost use Rattle.program_events.specs.ProgramOf.{IsProgramOf};
     ghost use Rattle.write_buffer.specs.Buffer.{youngest};
 
     /// A machine at the start of a program, whose store buffers have room for `capacity` stores

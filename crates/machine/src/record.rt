@@ -2,38 +2,13 @@
 
 ghost use Rattle.std.specs.Prelude.{◌≡◌, ◌+◌, ◌≤◌, ◌++◌, [], length, map, All};
 ghost use Rattle.program.specs.Parts.{op_count};
-ghost use Rattle.machine.specs.State.{event_of, events_from, cores_from};
+ghost use Rattle.machine.specs.State.{events_from, cores_from};
 
 use crate::bounded::BoundedList;
 use common::EventId;
 use program::{Op, Ops};
+use program_events::event_of;
 use recording::Event;
-
-/// The event that an operation makes, from the value that it read and its source.
-pub fn event_of(op: Op, read: (u32, Option<EventId>)) -> Event
-    ensures { result ≡ event_of op read }
-{
-    let (r, s) = read;
-    match op {
-        Op::St(a, w) => Event::S { a, w },
-        Op::Ld(a) => Event::L { a, r, s },
-        Op::Fence => Event::F,
-        Op::Swap(a, w) => Event::R { a, r, s, w },
-        Op::Add(a, value) => Event::R {
-            a,
-            r,
-            s,
-            w: r.wrapping_add(value),
-        },
-        Op::Cas(a, expected, w) => {
-            if r == expected {
-                Event::R { a, r, s, w }
-            } else {
-                Event::C { a, r, s }
-            }
-        }
-    }
-}
 
 /// Adds the events of a core, whose first event is `first`.
 pub(crate) fn record_core(

@@ -4,11 +4,12 @@ ghost use Rattle.std.specs.Prelude.{◌≡◌};
 ghost use Rattle.machine.specs.Step.{forwarded_or_read};
 
 use crate::blocked::Blocked;
+use crate::fault::{drain, draining, forwarded, may_fence, may_rmw};
 use crate::machine::Machine;
-use crate::record::event_of;
 use common::{Addr, CoreId, EventId};
 use moesi::CacheError;
 use program::Op;
+use program_events::event_of;
 use write_buffer::Entry;
 
 impl Machine {
@@ -45,7 +46,7 @@ impl Machine {
         requires { IsNextOf self.old core (Ld addr) event }
         ensures { IsStepAnswer (exec_answer self.old core (Ld addr) event) self.old self.new result }
     {
-        let entry = self.fault.forwarded(&self.buffers[core as usize], addr);
+        let entry = forwarded(self.fault, &self.buffers[core as usize], addr);
         let Ok(what) = forwarded_or_read(entry, self.caches.read(core, addr)) else {
             return Err(Blocked::B4);
         };
@@ -60,7 +61,7 @@ impl Machine {
         requires { IsNextOf self.old core Fence event }
         ensures { IsStepAnswer (exec_answer self.old core Fence event) self.old self.new result }
     {
-        if !self.fault.may_fence(&self.buffers[core as usize]) {
+        if !may_fence(self.fault, &self.buffers[core as usize]) {
             return Err(Blocked::B3);
         }
         self.performed.push(event);
@@ -82,7 +83,7 @@ impl Machine {
             ≡ read_modify_written self.old.fault self.old.state core event op addr }
         ensures { IsStepAnswer (exec_answer self.old core op event) self.old self.new result }
     {
-        if !self.fault.may_rmw(&self.buffers[core as usize]) {
+        if !may_rmw(self.fault, &self.buffers[core as usize]) {
             return Err(Blocked::B3);
         }
         let Ok(read) = self.caches.read(core, addr) else {
@@ -114,7 +115,7 @@ impl Machine {
             ≡ read_unmodified self.old.fault self.old.state core event addr }
         ensures { IsStepAnswer (exec_answer self.old core op event) self.old self.new result }
     {
-        if !self.fault.may_rmw(&self.buffers[core as usize]) {
+        if !may_rmw(self.fault, &self.buffers[core as usize]) {
             return Err(Blocked::B3);
         }
         if !self.caches.line(core, addr).is_exclusive() {
@@ -171,14 +172,14 @@ impl Machine {
         if core as usize >= self.program.cores() {
             return Err(Blocked::B8);
         }
-        let Some(entry) = self.fault.draining(&self.buffers[core as usize]) else {
+        let Some(entry) = draining(self.fault, &self.buffers[core as usize]) else {
             return Err(Blocked::B6);
         };
         let Entry { addr, value, event } = entry;
         let Ok(()) = self.caches.write(core, addr, value, event) else {
             return Err(Blocked::B5);
         };
-        self.fault.drain(&mut self.buffers[core as usize]);
+        drain(self.fault, &mut self.buffers[core as usize]);
         self.writes[addr as usize].push(event);
         self.performed.push(event);
         Ok(())

@@ -1,6 +1,7 @@
 //! The rows of transactions in the table of steps.
 
 use crate::blocked::Blocked;
+use crate::fault::transact;
 use crate::machine::Machine;
 use crate::step::Transaction;
 use common::{Addr, CoreId};
@@ -31,7 +32,7 @@ impl Machine {
         if !self.has(core, addr) {
             return Err(Blocked::B8);
         }
-        let Ok(()) = self.fault.transact(&mut self.caches, kind, core, addr) else {
+        let Ok(()) = transact(self.fault, &mut self.caches, kind, core, addr) else {
             return Err(Blocked::B7);
         };
         Ok(())

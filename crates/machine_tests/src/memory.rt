@@ -4,9 +4,9 @@
 
 use crate::plain::{STORE_BUFFERING, performs_an_order};
 use common::OpenGate;
-use litmus::parse;
+use litmus::{LitmusError, parse};
 use live::{LiveError, drive};
-use program::{LitmusError, Program};
+use program::Program;
 use std::alloc::Global;
 use std::sync::Wait;
 use std::test::Fail;

@@ -9,7 +9,7 @@ ghost use Rattle.merging.specs.Parts.{IsNoDigit};
 use crate::words::number;
 use common::{MAX_ADDRESSES, MAX_CAPACITY, MAX_CORES, MAX_EVENTS, MAX_STEPS, OutOfMemory};
 use headers::{Counted, Header, Setup, count_name, fault_name, put_header};
-use machine::Fault;
+use program::Fault;
 use std::alloc::Global;
 use texts::Cursor;
 

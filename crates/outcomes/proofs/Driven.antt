@@ -10,12 +10,13 @@ use Rattle.program.specs.declared.op.Op.{Op}
 use Rattle.program.specs.declared.op.Op.TheVariants.{St, Ld, Fence, Swap, Add, Cas}
 use Rattle.program.specs.Parts.{Parts, IsProgram, IsWithin, addr_of, op_count}
 use Rattle.recording.specs.Event.{read_address, written_address}
-use Rattle.machine.specs.declared.fault.Fault.TheVariants as faults
+use Rattle.program.specs.declared.fault.Fault.TheVariants as faults
 use Rattle.machine.specs.declared.step.Step.{Step}
 use Rattle.machine.specs.Configuration.{IsAtEnd, recording_of}
-use Rattle.machine.specs.ProgramLaws.{has_address}
+use Rattle.program_events.specs.ProgramLaws.{has_address}
 use Rattle.machine.specs.RunLaws.{run_append}
-use Rattle.machine.specs.State.{State, event_of, first_event, opening, place_of}
+use Rattle.machine.specs.State.{State, first_event, opening, place_of}
+use Rattle.program_events.specs.ProgramOf.{event_of}
 use Rattle.machine.specs.Step.{run}
 use Rattle.replay.specs.Steps.{Replaying, execute_to, perform, with_steps}
 use Rattle.replay.proofs.WrittenSteps.{more_steps}

@@ -16,18 +16,19 @@ use Rattle.write_buffer.specs.declared.entry.Entry.{Entry}
 use Rattle.write_buffer.specs.Buffer.{youngest}
 use Rattle.moesi.specs.Lines.{is_valid, is_exclusive}
 use Rattle.moesi.specs.State as moesi
-use Rattle.machine.specs.declared.fault.Fault.TheVariants as fault
+use Rattle.program.specs.declared.fault.Fault.TheVariants as fault
 use Rattle.machine.specs.declared.step.Step.{Step}
 use Rattle.machine.specs.declared.step.Step.TheVariants as steps
 use Rattle.machine.specs.declared.blocked.Blocked.{Blocked}
 use Rattle.machine.specs.declared.blocked.Blocked.TheVariants.{B2, B3, B4, B5, B7, B8}
 use Rattle.machine.specs.Faults.{without, may_rmw, may_fence}
-use Rattle.machine.specs.State.{State, place_of, buffer_of, line_copy, first_event, event_of, opening}
-use Rattle.machine.specs.Step.{advanced, performed, with_read, written, with_buffer, with_caches, exec}
-use Rattle.machine.specs.Step.{step_result, after}
-use Rattle.machine.specs.Step.{run, or_blocked, looked_up, rmw_value, read_modify_written}
-use Rattle.machine.specs.Step.{read_unmodified, drained, drained_at}
-use Rattle.machine.specs.Orderly.{is_st, is_ld, op_reads, AreStores, IsOrderly}
+use Rattle.machine.specs.State.{State, place_of, buffer_of, line_copy, first_event, opening}
+use Rattle.program_events.specs.ProgramOf.{event_of}
+use Rattle.machine.specs.Step.{advanced, performed, with_read, written, with_buffer, with_caches, exec, step_result}
+use Rattle.machine.specs.Step.{after, run, or_blocked, looked_up, rmw_value, read_modify_written, read_unmodified}
+use Rattle.machine.specs.Step.{drained, drained_at}
+use Rattle.program_events.specs.Operations.{is_st, is_ld, op_reads}
+use Rattle.machine.specs.Orderly.{AreStores, IsOrderly}
 use Rattle.machine.specs.RunLaws.{run_append, at_taken, guarded}
 use Rattle.machine.proofs.Cached.{exclusive_read}
 use Rattle.machine.proofs.Complete.{run_in_order}
@@ -41,19 +42,17 @@ use Rattle.replay.proofs.OrderlyRuns.{StaysOrderly}
 use Rattle.replay.proofs.StepLists.{StepsLead, is_at, fetch_read, fetch_write, write_made}
 use Rattle.outcomes.specs.declared.moves.Move.{Move}
 use Rattle.outcomes.specs.declared.moves.Move.TheVariants.{Exec, Drain}
-use Rattle.outcomes.specs.Situation.{stores_first, ops_of, may_go, executed_next}
+use Rattle.outcomes.specs.Situation.{stores_first, ops_of, may_go, executed_next, moved, drained_by}
 use Rattle.situations.specs.Situation.{Situation, waiting}
 use Rattle.situations.specs.Step.{stored_by_op}
 use Rattle.situations.specs.Waiting.{between, none_waits, oldest}
-use Rattle.outcomes.specs.Situation.{moved, drained_by}
 use Rattle.outcomes.specs.Reachable.{Leads, here, further}
 use Rattle.situations.specs.Situation as row
 use Rattle.outcomes.specs.Witness.{op_moved}
 use Rattle.situations.specs.declared.waiting.Waiting.{Waiting}
 use Rattle.outcomes.specs.Follow.{entries, Follows}
 use Rattle.situations.proofs.Ranges.{length_between}
-use Rattle.outcomes.proofs.Stores.{found_oldest, entries_few, no_entries, none_found, a_store}
-use Rattle.outcomes.proofs.Stores.{store_stands}
+use Rattle.outcomes.proofs.Stores.{found_oldest, entries_few, no_entries, none_found, a_store, store_stands}
 use Rattle.outcomes.proofs.Follow.{follow_store}
 use Rattle.outcomes.proofs.Grown.{moved_past}
 use Rattle.outcomes.proofs.Turns.{beside, look_turn, rmw_turn, drain_turn, transact_turn}

@@ -12,12 +12,12 @@ use Rattle.program.proofs.Soundness.{cores_within}
 use Rattle.recording.specs.Event.{value_read}
 use Rattle.recording.specs.Recording.{IsShortRecording}
 use Rattle.recording.specs.Tso.{IsTsoOrder}
-use Rattle.machine.specs.declared.fault.Fault.TheVariants as fault
+use Rattle.program.specs.declared.fault.Fault.TheVariants as fault
 use Rattle.machine.specs.State.{State, place_of, first_event, recorded, opening, IsComplete, IsDone}
-use Rattle.machine.specs.Orderly.{is_st}
-use Rattle.machine.specs.FirstUseLaws.{counts_numbered}
-use Rattle.machine.specs.ProgramLaws.{made_addresses}
-use Rattle.machine.specs.ProgramOf.{IsProgramOf}
+use Rattle.program_events.specs.Operations.{is_st}
+use Rattle.program_events.specs.FirstUseLaws.{counts_numbered}
+use Rattle.program_events.specs.ProgramLaws.{made_addresses}
+use Rattle.program_events.specs.ProgramOf.{IsProgramOf}
 use Rattle.machine.specs.RecordedLaws.{event_is, count_is}
 use Rattle.machine.proofs.Complete.{every_run_is_tso}
 use Rattle.machine.proofs.Data.{IsData, run_data}
@@ -26,10 +26,9 @@ use Rattle.machine.proofs.Recorded.{complete_recording}
 use Rattle.machine.proofs.Static.{first_within}
 use Rattle.replay.proofs.Kept.{run_keeps}
 use Rattle.outcomes.specs.Outcome.{Outcome, IsAllowed, IsOutcomeOf}
-use Rattle.outcomes.specs.Situation.{stores_first, ops_of, beginning}
+use Rattle.outcomes.specs.Situation.{stores_first, ops_of, beginning, IsOver, IsEnd}
 use Rattle.situations.specs.Situation.{Situation, waiting}
 use Rattle.situations.specs.Waiting.{between}
-use Rattle.outcomes.specs.Situation.{IsOver, IsEnd}
 use Rattle.situations.specs.Situation as row
 use Rattle.outcomes.specs.Reachable.{ComesTo, outcome_in}
 use Rattle.outcomes.specs.Follow.{entries, Follows}

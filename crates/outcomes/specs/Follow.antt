@@ -7,9 +7,10 @@ use Rattle.program.specs.Parts.{Parts}
 use Rattle.recording.specs.Event.{value_read}
 use Rattle.recording.specs.Execution.{placed_from}
 use Rattle.write_buffer.specs.declared.entry.Entry.{Entry}
-use Rattle.machine.specs.declared.fault.Fault.TheVariants as faults
-use Rattle.machine.specs.Orderly.{placed_op}
-use Rattle.machine.specs.State.{State, place_of, buffer_of, current_copy, first_event, event_of, opening}
+use Rattle.program.specs.declared.fault.Fault.TheVariants as faults
+use Rattle.program_events.specs.Operations.{placed_op}
+use Rattle.machine.specs.State.{State, place_of, buffer_of, current_copy, first_event, opening}
+use Rattle.program_events.specs.ProgramOf.{event_of}
 use Rattle.machine.specs.Step.{run}
 use Rattle.replay.specs.Steps.{Replaying}
 use Rattle.outcomes.specs.Situation.{past_stores, ops_of}

@@ -1,14 +1,13 @@
 -- A machine with store buffers over one memory, without caches and without events. A note of a situation is what an
 -- event read.
-use Rattle.std.specs.Prelude.{◌≡◌, ◌+◌, ◌%◌, ◌^◌, ◌==◌, ℕ, suc, Bool, true, false, if◌then◌else◌, Option, Some}
-use Rattle.std.specs.Prelude.{None}
-use Rattle.std.specs.Prelude.{List, [], ◌∷◌, map, length, drop, replicate, slice_index, slice_index_or}
-use Rattle.std.specs.Prelude.{is_some, slice_get}
+use Rattle.std.specs.Prelude.{◌≡◌, ◌+◌, ◌%◌, ◌^◌, ◌==◌, ℕ, suc, Bool, true, false, if◌then◌else◌, Option, Some, None}
+use Rattle.std.specs.Prelude.{List, [], ◌∷◌, map, length, drop, replicate, slice_index, slice_index_or, is_some}
+use Rattle.std.specs.Prelude.{slice_get}
 use Rattle.program.specs.declared.op.Op.{Op}
 use Rattle.program.specs.declared.op.Op.TheVariants.{St, Ld, Swap, Add, Cas}
 use Rattle.program.specs.Parts.{Parts, op_count}
 use Rattle.machine.specs.State.{first_event}
-use Rattle.machine.specs.Orderly.{is_st, op_reads}
+use Rattle.program_events.specs.Operations.{is_st, op_reads}
 use Rattle.outcomes.specs.declared.moves.Move.{Move}
 use Rattle.outcomes.specs.declared.moves.Move.TheVariants.{Exec, Drain}
 use Rattle.situations.specs.Situation.{Situation, drained_of, place_of, waiting, with_drained, with_note, with_place}

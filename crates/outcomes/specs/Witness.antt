@@ -6,7 +6,7 @@ use Rattle.program.specs.Parts.{Parts}
 use Rattle.recording.specs.Execution.{Execution}
 use Rattle.recording.specs.FirstUse.{IsNumberedByFirstUse}
 use Rattle.recording.specs.Tso.{IsTsoOrder}
-use Rattle.machine.specs.ProgramOf.{IsProgramOf}
+use Rattle.program_events.specs.ProgramOf.{IsProgramOf}
 use Rattle.outcomes.specs.declared.moves.Move.{Move}
 use Rattle.outcomes.specs.declared.moves.Move.TheVariants.{Exec, Drain}
 use Rattle.outcomes.specs.declared.observed.Observation.{Observation}

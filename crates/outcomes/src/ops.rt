@@ -1,7 +1,7 @@
 //! The plain stores that come first among a core's operations.
 
 ghost use Rattle.std.specs.Prelude.{◌≡◌, ◌≤◌, length};
-ghost use Rattle.machine.specs.Orderly.{is_st};
+ghost use Rattle.program_events.specs.Operations.{is_st};
 ghost use Rattle.outcomes.specs.Situation.{past_stores, stores_first};
 
 use program::Op;

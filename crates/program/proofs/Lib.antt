@@ -1,14 +1,5 @@
 pub mod OnLists
 pub mod ManyNames
 pub mod CoreLemmas
-pub mod DraftLemmas
-pub mod OneName
-pub mod OneLine
-pub mod OneStep
-pub mod OneDraft
-pub mod OneText
-pub mod Cuts
-pub mod CoresAgain
-pub mod Again
 pub mod Soundness
 pub mod PartLemmas

@@ -8,8 +8,8 @@ use Rattle.std.proofs.lemmas.Fmt.{digits_decimal, length-decimal-le}
 use Rattle.std.proofs.lemmas.Map.Keys.{IsDistinct-push}
 use Rattle.program.specs.declared.name.Name.{Name}
 use Rattle.program.specs.Names.{AreLawful, is_letter, is_letter_or_digit, is_name, name_eq, name_of, name_text}
+use Rattle.program.specs.Names.{names_with}
 use Rattle.texts.specs.Decimals.{is_digit, decimal_of}
-use Rattle.program.specs.Steps.{names_with}
 use Rattle.texts.specs.DecimalLaws.{model, again}
 use Rattle.texts.specs.TestLaws.{all_also}
 use Rattle.program.specs.NameLaws.{name_only, name_again, name_laws, same_name}

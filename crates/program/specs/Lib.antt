@@ -1,12 +1,9 @@
 pub mod Names
 pub mod NameLaws
-pub mod Lines
 pub mod Parts
-pub mod Steps
-pub mod Drafts
-pub mod Text
-pub mod Spelling
 pub mod NameListLaws
 pub mod AddressNames
 pub mod AddressNameLaws
 pub mod Shapes
+pub mod Campaigns
+pub mod Shards

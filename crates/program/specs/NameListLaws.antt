@@ -7,9 +7,7 @@ use Rattle.std.proofs.lemmas.List.Elements.{All-from_recursion}
 use Rattle.std.proofs.Math.Seq.{get_or-append_seam}
 use Rattle.std.proofs.lemmas.Map.Keys.{IsDistinct-head, IsDistinct-tail}
 use Rattle.program.specs.declared.name.Name.{Name}
-use Rattle.program.specs.Names.{name_eq, no_name}
-use Rattle.program.specs.Steps.{name_number}
-use Rattle.program.specs.Spelling.{name_at}
+use Rattle.program.specs.Names.{name_eq, no_name, name_number, name_at}
 use Rattle.program.specs.NameLaws.{name_laws}
 
 -- one more that holds

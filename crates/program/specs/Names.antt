@@ -1,8 +1,9 @@
--- Names: a letter, then at most 7 letters and digits.
+-- Names: a letter, then at most 7 letters and digits; and lists of them.
 use Rattle.std.specs.Prelude.{◌≡◌, ℕ, List, ◌++◌, ◌&&◌, ◌||◌, ◌==◌, Bool, nat_lt, nat_le, nat_eq, slice_index}
-use Rattle.std.specs.Prelude.{length, drop, replicate, Option, None, Some, if◌then◌else◌}
-use Rattle.std.specs.List.{list_all, before_first, AllByRecursion}
+use Rattle.std.specs.Prelude.{slice_index_or, length, drop, replicate, Option, None, Some, if◌then◌else◌}
+use Rattle.std.specs.List.{list_all, before_first, position_or_len, AllByRecursion}
 use Rattle.std.specs.Cmp.Lexicographic.{pointwise}
+use Rattle.indexmap.specs.IndexSet.{insert_key}
 use Rattle.program.specs.declared.name.Name.{Name}
 
 -- a byte from a to z
@@ -42,6 +43,18 @@ name_eq a b = pointwise nat_eq a.bytes b.bytes
 -- what stands where there is no name
 abbrev pub no_name : Name
 no_name = record { bytes = replicate 8 0 }
+
+-- the name of an address, by its number
+abbrev pub name_at : List Name → ℕ → Name
+name_at names a = slice_index_or names a no_name
+
+-- the names, with one that may be new at the end
+abbrev pub names_with : List Name → Name → List Name
+names_with names name = insert_key name_eq names name
+
+-- the number of a name, or how many there are
+abbrev pub name_number : List Name → Name → ℕ
+name_number names name = position_or_len (name_eq name) names
 
 -- each name is that of a text
 abbrev pub AreLawful : List Name → Type 0

@@ -1,8 +1,7 @@
 //! The names of addresses.
 
 ghost use Rattle.std.specs.Prelude.{◌≡◌, ◌≤◌, IsTrue, IfOk, Some, true, false, length, position};
-ghost use Rattle.program.specs.Spelling.{name_at};
-ghost use Rattle.program.specs.Names.{is_letter_or_digit, is_name, is_zero, name_of, name_text};
+ghost use Rattle.program.specs.Names.{name_at, is_letter_or_digit, is_name, is_zero, name_of, name_text};
 ghost use Rattle.std.specs.List.{list_all, position_or_len};
 
 use indexmap::IndexSet;

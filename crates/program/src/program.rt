@@ -38,28 +38,17 @@ impl Drop for Program {
 }
 
 impl Program {
-    ghost use Rattle.std.specs.Prelude.{◌≡◌, ◌≢◌, ◌<◌, ◌≤◌, ◌↔◌, ℕ, List, Ok, length, slice_index_or, []};
+    ghost use Rattle.std.specs.Prelude.{◌≡◌, ◌<◌, ◌≤◌, ◌↔◌, length, slice_index_or, []};
     ghost use Rattle.std.specs.Prelude.{IsTrue, IfOk, IfSome, IsSome, None, All};
     ghost use Rattle.program.specs.Parts.{IsProgram, IsWithin, op_count, parts_of};
-    ghost use Rattle.program.specs.Spelling.{spelling};
-    ghost use Rattle.program.specs.Text.{reading};
 
-    /// The program of these names, operations and initial values. None exactly where no text is of
-    /// them: where a limit is passed, an address has no name, a name is unused, the names aren't in
-    /// order of first use, or there isn't one initial value for each name. It takes no
-    /// memory.
+    /// The program of these names, operations and initial values. None exactly where they are none:
+    /// where a limit is passed, an address has no name, a name is unused, the names aren't in order of
+    /// first use, or there isn't one initial value for each name. It takes no memory.
     pub fn new(names: IndexSet<Name>, cores: Vec<Ops>, init: Vec<u32>) -> Option<Program>
         ensures some { IfSome result (λ p. p ≡ parts_of names.keys cores.items init.items) }
-
-        // Some where this is a program, and its text is read as it.
         ensures lawful { IsSome result → IsProgram (parts_of names.keys cores.items init.items) }
-        ensures read { IsSome result → reading (spelling (parts_of names.keys cores.items init.items))
-            ≡ Ok (parts_of names.keys cores.items init.items) }
-
-        // None where this is no program, and no text is read as it.
         ensures none { result ≡ None → ¬ IsProgram (parts_of names.keys cores.items init.items) }
-        ensures unread { result ≡ None → (text : List ℕ) →
-            reading text ≢ Ok (parts_of names.keys cores.items init.items) }
     {
         if !is_program(&names, &cores, &init) {
             return None;

@@ -10,10 +10,8 @@ use Rattle.program.specs.declared.name.Name.{Name}
 use Rattle.program.specs.declared.op.Op.{Op}
 use Rattle.program.specs.NameLaws.{name_laws}
 use Rattle.program.specs.NameListLaws.{not_before}
-use Rattle.program.specs.Steps.{names_with}
-use Rattle.program.specs.Names.{AreLawful, name_eq, name_of, name_text, no_name}
+use Rattle.program.specs.Names.{names_with, AreLawful, name_eq, name_of, name_text, no_name, name_at}
 use Rattle.program.specs.Parts.{Parts, Small, IsSmall, IsProgram, parts_of}
-use Rattle.program.specs.Spelling.{name_at}
 use Rattle.recording.specs.Execution.{Execution, write_list, initial_value}
 use Rattle.recording.specs.FirstUse.{IsNumberedByFirstUse}
 use Rattle.recording.specs.Order.{place, times}
@@ -21,10 +19,10 @@ use Rattle.recording.specs.OrderLaws.{times_here}
 use Rattle.recording.specs.PlaceLaws.{place_at, times_at}
 use Rattle.recording.specs.PlacedLaws.{placed_total}
 use Rattle.recording.specs.Recording.{IsShortRecording}
-use Rattle.machine.specs.FirstUseLaws.{HaveAddressesOf, numbered_counts}
-use Rattle.machine.specs.Orderly.{placed_op}
-use Rattle.machine.specs.ProgramLaws.{made_addresses, events_made}
-use Rattle.machine.specs.ProgramOf.{IsProgramOf}
+use Rattle.program_events.specs.FirstUseLaws.{HaveAddressesOf, numbered_counts}
+use Rattle.program_events.specs.Operations.{placed_op}
+use Rattle.program_events.specs.ProgramLaws.{made_addresses, events_made}
+use Rattle.program_events.specs.ProgramOf.{IsProgramOf}
 use Rattle.reduction.specs.RestrictedProgram.{readdressed_op, restricted_program}
 use Rattle.reduction.specs.Restriction.{AreClosed, addresses_of, kept_of, used_cores, restriction}
 use Rattle.reduction.proofs.Faithful.{every_restriction_is_faithful}

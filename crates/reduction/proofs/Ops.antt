@@ -13,11 +13,10 @@ use Rattle.recording.specs.declared.event.Event.TheVariants.{R, C, F}
 use Rattle.recording.specs.Event.{value_read, source}
 use Rattle.recording.specs.Execution.{Execution, placed_from, event_at}
 use Rattle.recording.specs.Order.{place}
-use Rattle.machine.specs.Orderly.{placed_op}
-use Rattle.machine.specs.ProgramLaws.{event_made}
+use Rattle.program_events.specs.Operations.{placed_op}
+use Rattle.program_events.specs.ProgramLaws.{event_made}
 use Rattle.recording.specs.PlacedLaws.{placed_here, placed_after}
-use Rattle.machine.specs.ProgramOf.{Makes, AreOpsOf, IsProgramOf}
-use Rattle.machine.specs.State.{event_of}
+use Rattle.program_events.specs.ProgramOf.{Makes, AreOpsOf, IsProgramOf, event_of}
 use Rattle.reduction.specs.RestrictedProgram.{readdressed, readdressed_op, restricted_program}
 use Rattle.reduction.specs.Restriction.{addresses_of, renumbered, placed_event, used_cores, restriction}
 use Rattle.reduction.proofs.Restricted.{source_renumbered, value_read_renumbered}

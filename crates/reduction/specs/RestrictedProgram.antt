@@ -3,10 +3,10 @@ use Rattle.std.specs.Prelude.{ℕ, List, map}
 use Rattle.program.specs.declared.op.Op.{Op}
 use Rattle.program.specs.declared.op.Op.TheVariants.{St, Ld, Fence, Swap, Add, Cas}
 use Rattle.program.specs.Parts.{Parts}
-use Rattle.program.specs.Spelling.{name_at}
+use Rattle.program.specs.Names.{name_at}
 use Rattle.recording.specs.Execution.{Execution, initial_value}
 use Rattle.recording.specs.Order.{place}
-use Rattle.machine.specs.Orderly.{placed_op}
+use Rattle.program_events.specs.Operations.{placed_op}
 use Rattle.reduction.specs.Restriction.{addresses_of, used_cores}
 
 -- an operation with another number for its address

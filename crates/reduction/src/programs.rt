@@ -3,11 +3,10 @@
 ghost use Rattle.common.specs.declared.limits.TheConstants.{MAX_RECORDED_EVENTS};
 ghost use Rattle.std.specs.Prelude.{◌≡◌, ◌≤◌, IfOk, map, length};
 ghost use Rattle.std.specs.List.{IsDistinct};
-ghost use Rattle.program.specs.Names.{name_eq};
-ghost use Rattle.program.specs.Spelling.{name_at};
+ghost use Rattle.program.specs.Names.{name_eq, name_at};
 ghost use Rattle.recording.specs.Order.{place};
-ghost use Rattle.machine.specs.Orderly.{placed_op};
-ghost use Rattle.machine.specs.ProgramOf.{IsProgramOf};
+ghost use Rattle.program_events.specs.Operations.{placed_op};
+ghost use Rattle.program_events.specs.ProgramOf.{IsProgramOf};
 ghost use Rattle.reduction.specs.Restriction.{AreClosed, restriction};
 ghost use Rattle.reduction.specs.RestrictedProgram.{readdressed, readdressed_op, restricted_program};
 

@@ -1,7 +1,6 @@
 -- A well-formed execution is determined by its program and a TSO order of it.
-use Rattle.std.proofs.Common.{◌≡◌, ◌≢◌, ◌<◌, ◌≤◌, ◌+◌, ◌⊎◌, inl, inr, ℕ, zero, suc, ◌&&◌, Option, Some, None}
-use Rattle.std.proofs.Common.{List, [], ◌∷◌, map, take, length, get_or, arith, refl, sym, ap, subst, ◌∙◌}
-use Rattle.std.proofs.Common.{ext_get_or}
+use Rattle.std.proofs.Common.{◌≡◌, ◌≢◌, ◌<◌, ◌≤◌, ◌+◌, ◌⊎◌, inl, inr, ℕ, zero, suc, ◌&&◌, Option, Some, None, List, []}
+use Rattle.std.proofs.Common.{◌∷◌, map, take, length, get_or, arith, refl, sym, ap, subst, ◌∙◌, ext_get_or}
 use Rattle.std.specs.List.{sum}
 use Rattle.std.proofs.lemmas.List.{length-map}
 use Rattle.std.proofs.lemmas.Bool.{cases_eq, cases_Bool, and_parts}
@@ -16,10 +15,11 @@ use Rattle.recording.specs.Order.{place, times, Before, Enumerates}
 use Rattle.recording.specs.Tso.{Gives, IsWellFormed, Visible, IsLastVisible, IsTsoOrder}
 use Rattle.recording.specs.OrderLaws.{times_here, times_there, times_nil, times_in, times_append, cases_times}
 use Rattle.recording.specs.OrderLaws.{left_before_right, before_in_right}
-use Rattle.machine.specs.State.{event_of}
-use Rattle.replay.specs.Program.{op_of}
+use Rattle.program_events.specs.ProgramOf.{event_of}
+use Rattle.program_events.specs.NamedProgram.{op_of}
 use Rattle.recording.specs.PlacedLaws.{placed_at}
-use Rattle.replay.proofs.Made.{made_again, made_unread, made_reads, made_given, store_unread, IsMade}
+use Rattle.program_events.proofs.MadeAgain.{made_again, made_unread, made_reads, made_given, store_unread}
+use Rattle.replay.proofs.Made.{IsMade}
 
 -- Lists that one order sorts
 

@@ -18,26 +18,27 @@ use Rattle.recording.specs.Recording.{IsShortRecording}
 use Rattle.recording.specs.Tso.{IsTsoOrder, IsWellFormed}
 use Rattle.recording.specs.OrderLaws.{times_here, times_append}
 use Rattle.write_buffer.specs.declared.entry.Entry.{Entry}
-use Rattle.machine.specs.declared.fault.Fault.TheVariants as fault
+use Rattle.program.specs.declared.fault.Fault.TheVariants as fault
 use Rattle.machine.specs.declared.step.Step.{Step}
 use Rattle.machine.specs.Step.{step_result, after, run, has}
 use Rattle.machine.specs.State.{State, place_of, buffer_of, first_event, opening, recorded, IsComplete}
-use Rattle.replay.specs.Program.{op_of, program_of}
+use Rattle.program_events.specs.NamedProgram.{op_of, program_of, named_program}
 use Rattle.replay.specs.Steps.{most_stores, replay_steps}
 use Rattle.replay.specs.OrderReplay.{IsReplay, EveryOrderIsReplayed, led_to, MakesExactlyTso}
 use Rattle.program.specs.AddressNames.{address_names}
-use Rattle.replay.specs.Program.{named_program}
 use Rattle.program.specs.AddressNameLaws.{names_count}
 use Rattle.machine.specs.declared.blocked.Blocked.{Blocked}
 use Rattle.machine.specs.declared.step.Step.TheVariants.{Exec, Drain, GetS, GetM, Put}
 use Rattle.machine.specs.Script.{IsStepOf}
-use Rattle.machine.specs.Orderly.{EveryRunIsTso, EveryRunIsWellFormed, placed_op, is_st, IsOrderly, EveryStateIsOrderly}
+use Rattle.machine.specs.Orderly.{EveryRunIsTso, EveryRunIsWellFormed, IsOrderly, EveryStateIsOrderly}
+use Rattle.program_events.specs.Operations.{placed_op, is_st}
 use Rattle.std.proofs.lemmas.List.Elements.{All-nil, All-cons}
 use Rattle.recording.specs.PlacedLaws.{placed_total, placed_at}
 use Rattle.machine.proofs.PlaceLemmas.{places_within}
 use Rattle.machine.specs.RunLaws.{guarded}
-use Rattle.replay.proofs.NamedProgram.{named_is_program}
-use Rattle.replay.proofs.Made.{placed_is, count_same, made_again, recorded_made}
+use Rattle.program_events.proofs.NamedProgram.{named_is_program}
+use Rattle.program_events.proofs.MadeAgain.{placed_is, count_same, made_again}
+use Rattle.replay.proofs.Made.{recorded_made}
 use Rattle.replay.proofs.Determined.{determined}
 use Rattle.replay.proofs.OrderlyRuns.{StaysOrderly, begun_going, goes_further, stores_same, waiting, waits_once}
 use Rattle.replay.proofs.StepLists.{AreTaken, StepsLead, all_of, goes_more}

@@ -14,19 +14,20 @@ use Rattle.recording.specs.Recording.{IsShortRecording}
 use Rattle.recording.specs.PlacedLaws.{placed_at}
 use Rattle.moesi.specs.declared.error.CacheError.{CacheError}
 use Rattle.write_buffer.specs.declared.entry.Entry.{Entry}
-use Rattle.machine.specs.declared.fault.Fault.{Fault}
-use Rattle.machine.specs.declared.fault.Fault.TheVariants as fault
+use Rattle.program.specs.declared.fault.Fault.{Fault}
+use Rattle.program.specs.declared.fault.Fault.TheVariants as fault
 use Rattle.machine.specs.declared.step.Step.{Step}
 use Rattle.machine.specs.declared.step.Step.TheVariants.{Exec, Drain, GetS, GetM, Put}
 use Rattle.machine.specs.declared.blocked.Blocked.{Blocked}
 use Rattle.machine.specs.declared.blocked.Blocked.TheVariants.{B1, B2, B3, B4, B5, B6, B7, B8}
 use Rattle.machine.specs.Faults.{draining}
-use Rattle.machine.specs.State.{State, event_of, first_event, place_of, buffer_of, line_copy, recorded}
+use Rattle.machine.specs.State.{State, first_event, place_of, buffer_of, line_copy, recorded}
+use Rattle.program_events.specs.ProgramOf.{event_of}
 use Rattle.machine.specs.Step.{exec, exec_next, drained_at, step_result, after, run, or_blocked}
 use Rattle.machine.specs.Taken.{begun}
-use Rattle.machine.specs.Orderly.{placed_op}
+use Rattle.program_events.specs.Operations.{placed_op}
 use Rattle.machine.specs.RecordedLaws.{event_is}
-use Rattle.machine.specs.ProgramLaws.{has_address}
+use Rattle.program_events.specs.ProgramLaws.{has_address}
 use Rattle.replay.specs.OrderReplay.{led_to}
 
 -- the initial values are the same, and the same number of write lists

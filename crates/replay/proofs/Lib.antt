@@ -7,4 +7,4 @@ pub mod Turns
 pub mod Orders
 pub mod EveryOrder
 pub mod WrittenSteps
-pub mod NamedProgram
+pub mod MostStores

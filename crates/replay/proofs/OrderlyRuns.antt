@@ -12,15 +12,15 @@ use Rattle.recording.specs.Event.{is_plain_store}
 use Rattle.recording.specs.Order.{times}
 use Rattle.recording.specs.OrderLaws.{times_nil, times_there, times_append}
 use Rattle.write_buffer.specs.declared.entry.Entry.{Entry}
-use Rattle.machine.specs.declared.fault.Fault.TheVariants as fault
+use Rattle.program.specs.declared.fault.Fault.TheVariants as fault
 use Rattle.machine.specs.declared.step.Step.{Step}
 use Rattle.machine.specs.declared.blocked.Blocked.{Blocked}
 use Rattle.machine.specs.State.{State, buffer_of, opening}
 use Rattle.machine.specs.Step.{step_result, after, run}
-use Rattle.machine.specs.Orderly.{placed_op, is_st, AreStores, seen_by, IsExecuted, IsOrderly}
-use Rattle.machine.specs.Orderly.{EveryStateIsOrderly}
-use Rattle.replay.specs.Program.{op_of}
-use Rattle.replay.proofs.Made.{store_same}
+use Rattle.program_events.specs.Operations.{placed_op, is_st}
+use Rattle.machine.specs.Orderly.{AreStores, seen_by, IsExecuted, IsOrderly, EveryStateIsOrderly}
+use Rattle.program_events.specs.NamedProgram.{op_of}
+use Rattle.program_events.proofs.MadeAgain.{store_same}
 
 -- whatever steps go on from a state lead to one that is orderly
 pub record StaysOrderly (p : List (List Op)) (n capacity : ℕ) (s : State) : Type 0 where

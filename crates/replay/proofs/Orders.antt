@@ -1,7 +1,6 @@
 -- The events of a TSO order take their turns, one after another.
-use Rattle.std.proofs.Common.{◌≡◌, ◌<◌, ◌≤◌, ◌+◌, ◌-◌, ◌*◌, ℕ, true, List, [], ◌∷◌, ◌++◌, length, get_or}
-use Rattle.std.proofs.Common.{replicate, arith, refl, sym, ap, ◌∙◌, length-append, append_assoc}
-use Rattle.std.proofs.Common.{append-nil}
+use Rattle.std.proofs.Common.{◌≡◌, ◌<◌, ◌≤◌, ◌+◌, ◌-◌, ◌*◌, ℕ, true, List, [], ◌∷◌, ◌++◌, length, get_or, replicate}
+use Rattle.std.proofs.Common.{arith, refl, sym, ap, ◌∙◌, length-append, append_assoc, append-nil}
 use Rattle.std.specs.List.{sum, count_by}
 use Rattle.std.proofs.lemmas.List.{length-replicate}
 use Rattle.program.specs.declared.op.Op.{Op}
@@ -10,13 +9,13 @@ use Rattle.recording.specs.declared.event.Event.TheVariants.{L, S, R, C, F}
 use Rattle.recording.specs.Event.{is_plain_store}
 use Rattle.recording.specs.Execution.{Execution, event_at, core_of}
 use Rattle.recording.specs.Tso.{IsTsoOrder}
-use Rattle.machine.specs.declared.fault.Fault.TheVariants as fault
+use Rattle.program.specs.declared.fault.Fault.TheVariants as fault
 use Rattle.machine.specs.declared.step.Step.{Step}
 use Rattle.machine.specs.declared.step.Step.TheVariants.{Exec}
 use Rattle.machine.specs.State.{State, place_of, first_event}
-use Rattle.replay.specs.Program.{program_of}
+use Rattle.program_events.specs.NamedProgram.{program_of}
 use Rattle.replay.specs.Steps.{executed_before, perform, turn, order_steps}
-use Rattle.machine.specs.Orderly.{is_st}
+use Rattle.program_events.specs.Operations.{is_st}
 use Rattle.replay.proofs.OrderlyRuns.{StaysOrderly}
 use Rattle.replay.proofs.StepLists.{StepsLead, goes_on, HasStored}
 use Rattle.replay.proofs.Turns.{IsTurn, caught_up, fence_turn, rmw_turn, cas_turn, load_turn, drain_turn}

@@ -1,8 +1,7 @@
 -- Lists of steps of which none is blocked.
-use Rattle.std.proofs.Common.{◌≡◌, ◌<◌, ◌≤◌, ◌+◌, ℕ, nat_lt, zero, suc, Bool, true, false, cond, Option, Some}
-use Rattle.std.proofs.Common.{None, Result, Ok, Err, List, [], ◌∷◌, ◌++◌, length, get_or, slice_get}
-use Rattle.std.proofs.Common.{slice_index_or, replicate, arith, refl, sym, ap, subst, ◌∙◌}
-use Rattle.std.proofs.Common.{get_or-set_same, length-set}
+use Rattle.std.proofs.Common.{◌≡◌, ◌<◌, ◌≤◌, ◌+◌, ℕ, nat_lt, zero, suc, Bool, true, false, cond, Option, Some, None}
+use Rattle.std.proofs.Common.{Result, Ok, Err, List, [], ◌∷◌, ◌++◌, length, get_or, slice_get, slice_index_or}
+use Rattle.std.proofs.Common.{replicate, arith, refl, sym, ap, subst, ◌∙◌, get_or-set_same, length-set}
 use Rattle.std.specs.Prelude.{⊤}
 use Rattle.std.specs.List.{sum, count_by}
 use Rattle.std.proofs.lemmas.Bool.{lt-ltb, ltb-true}
@@ -17,7 +16,7 @@ use Rattle.moesi.specs.declared.line.Line.{Line}
 use Rattle.moesi.specs.Block.{Block, cell_of, invalid, with_line, block_by, has_copy, supplied}
 use Rattle.moesi.specs.State as moesi
 use Rattle.write_buffer.specs.declared.entry.Entry.{Entry}
-use Rattle.machine.specs.declared.fault.Fault.TheVariants as fault
+use Rattle.program.specs.declared.fault.Fault.TheVariants as fault
 use Rattle.machine.specs.declared.step.Step.{Step}
 use Rattle.machine.specs.declared.step.Step.TheVariants.{Exec, GetS, GetM}
 use Rattle.machine.specs.declared.blocked.Blocked.{Blocked}
@@ -27,7 +26,7 @@ use Rattle.machine.specs.Step.{exec, exec_next, step_result, after, run, advance
 use Rattle.machine.specs.Step.{forwarded_or_read, has, IsAt}
 use Rattle.replay.specs.Steps.{get_to_write, get_to_read}
 use Rattle.machine.specs.Taken.{all_taken, unless_blocked}
-use Rattle.machine.specs.Orderly.{is_st}
+use Rattle.program_events.specs.Operations.{is_st}
 use Rattle.machine.specs.RunLaws.{at_taken, guarded}
 use Rattle.replay.proofs.OrderlyRuns.{StaysOrderly, goes_further}
 

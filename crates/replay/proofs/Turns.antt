@@ -1,8 +1,7 @@
 -- Where the order up to an event was performed, the steps of this event are taken, and perform it.
 use Rattle.std.proofs.Common.{◌≡◌, ◌<◌, ◌≤◌, ◌+◌, ◌-◌, ◌%◌, ◌^◌, ◌==◌, ◌&&◌, inl, inr, ℕ, Bool, true, false, cond}
-use Rattle.std.proofs.Common.{Option, Ok, List, []}
-use Rattle.std.proofs.Common.{◌∷◌, ◌++◌, map, length, get_or, slice_set, arith, refl, sym, ap, subst, ◌∙◌}
-use Rattle.std.proofs.Common.{length-append}
+use Rattle.std.proofs.Common.{Option, Ok, List, [], ◌∷◌, ◌++◌, map, length, get_or, slice_set, arith, refl, sym, ap}
+use Rattle.std.proofs.Common.{subst, ◌∙◌, length-append}
 use Rattle.std.specs.List.{sum, count_by}
 use Rattle.std.proofs.lemmas.List.Sums.{sum_by-set}
 use Rattle.std.proofs.lemmas.Bool.{cases_eq, cases_lt, lt-ltb, cases_Bool, and_parts, and_right}
@@ -14,26 +13,27 @@ use Rattle.recording.specs.Event.{is_plain_store, is_plain_load}
 use Rattle.recording.specs.Execution.{Execution, placed_from, event_count, event_at, core_of}
 use Rattle.recording.specs.Order.{times, Before}
 use Rattle.recording.specs.Tso.{IsTsoOrder}
-use Rattle.recording.specs.OrderLaws.{cases_times, place_here, place_there, times_here, times_nil}
-use Rattle.recording.specs.OrderLaws.{times_append}
+use Rattle.recording.specs.OrderLaws.{cases_times, place_here, place_there, times_here, times_nil, times_append}
 use Rattle.recording.specs.OrderLaws.{place_append_right}
 use Rattle.moesi.specs.State as moesi
 use Rattle.moesi.specs.Lines.{is_exclusive}
 use Rattle.write_buffer.specs.declared.entry.Entry.{Entry}
 use Rattle.write_buffer.specs.Buffer.{youngest}
-use Rattle.machine.specs.declared.fault.Fault.TheVariants as fault
+use Rattle.program.specs.declared.fault.Fault.TheVariants as fault
 use Rattle.machine.specs.declared.step.Step.{Step}
 use Rattle.machine.specs.declared.step.Step.TheVariants.{Exec, Drain}
 use Rattle.machine.specs.declared.blocked.Blocked.TheVariants.{B4}
 use Rattle.machine.specs.State.{State, place_of, buffer_of, line_copy, first_event}
 use Rattle.machine.specs.Step.{exec, step_result, or_blocked, advanced, performed, with_read, written, with_buffer}
 use Rattle.machine.specs.Step.{with_caches, rmw_value, read_modify_written, read_unmodified}
-use Rattle.replay.specs.Program.{op_of, program_of}
+use Rattle.program_events.specs.NamedProgram.{op_of, program_of}
 use Rattle.replay.specs.Steps.{execute_to, get_to_write, get_to_read}
-use Rattle.machine.specs.Orderly.{placed_op, is_st, is_ld, AreStores, seen_by, IsOrderly}
+use Rattle.program_events.specs.Operations.{placed_op, is_st, is_ld}
+use Rattle.machine.specs.Orderly.{AreStores, seen_by, IsOrderly}
 use Rattle.recording.specs.PlacedLaws.{placed_at}
 use Rattle.machine.proofs.PlaceLemmas.{event_after, event_before}
-use Rattle.replay.proofs.Made.{store_same, placed_is, count_same, core_there}
+use Rattle.program_events.proofs.MadeAgain.{store_same, placed_is, count_same}
+use Rattle.replay.proofs.Made.{core_there}
 use Rattle.replay.proofs.OrderlyRuns.{StaysOrderly, goes_further, waiting, stores_wait, waits_once}
 use Rattle.machine.specs.RunLaws.{at_taken}
 use Rattle.replay.proofs.StepLists.{StepsLead, goes_one, goes_on, is_at, HasStored, store_all, Fetches, fetch_write}

@@ -10,7 +10,7 @@ use Rattle.machine.specs.State.{State}
 use Rattle.machine.specs.Step.{run}
 use Rattle.machine.specs.RunLaws.{run_append}
 use Rattle.machine.specs.Configuration.{Configuration}
-use Rattle.replay.specs.Program.{program_of}
+use Rattle.program_events.specs.NamedProgram.{program_of}
 use Rattle.replay.specs.Steps.{executed_before, execute_to, perform, turn, order_steps, Replaying, with_steps}
 
 -- more steps, and then more

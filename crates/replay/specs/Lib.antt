@@ -1,3 +1,2 @@
-pub mod Program
 pub mod Steps
 pub mod OrderReplay

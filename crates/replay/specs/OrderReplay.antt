@@ -5,7 +5,7 @@ use Rattle.program.specs.Parts.{Parts, IsProgram, Small, IsSmall}
 use Rattle.recording.specs.Execution.{Execution, event_count}
 use Rattle.recording.specs.Recording.{IsShortRecording}
 use Rattle.recording.specs.Tso.{IsTsoOrder}
-use Rattle.machine.specs.declared.fault.Fault.TheVariants as fault
+use Rattle.program.specs.declared.fault.Fault.TheVariants as fault
 use Rattle.machine.specs.declared.step.Step.{Step}
 use Rattle.machine.specs.State.{State, recorded, IsComplete}
 use Rattle.machine.specs.Step.{run}
@@ -13,7 +13,7 @@ use Rattle.machine.specs.Taken.{all_taken, begun}
 use Rattle.machine.specs.Script.{IsStepOf}
 use Rattle.recording.specs.FirstUse.{IsNumberedByFirstUse}
 use Rattle.replay.specs.Steps.{most_stores, replay_steps}
-use Rattle.replay.specs.Program.{program_of, named_program}
+use Rattle.program_events.specs.NamedProgram.{program_of, named_program}
 
 -- the state that steps without fault lead to from the beginning
 abbrev pub led_to : Parts → ℕ → List Step → State

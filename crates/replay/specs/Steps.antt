@@ -11,13 +11,13 @@ use Rattle.write_buffer.specs.declared.entry.Entry.{Entry}
 use Rattle.write_buffer.specs.Buffer.{youngest}
 use Rattle.moesi.specs.Lines.{is_valid, is_exclusive}
 use Rattle.moesi.specs.State as moesi
-use Rattle.machine.specs.declared.fault.Fault.{Fault}
-use Rattle.machine.specs.declared.fault.Fault.TheVariants as fault
+use Rattle.program.specs.declared.fault.Fault.{Fault}
+use Rattle.program.specs.declared.fault.Fault.TheVariants as fault
 use Rattle.machine.specs.declared.step.Step.{Step}
 use Rattle.machine.specs.declared.step.Step.TheVariants.{Exec, Drain, GetS, GetM}
 use Rattle.machine.specs.State.{State, place_of, buffer_of, first_event, opening}
 use Rattle.machine.specs.Step.{run}
-use Rattle.replay.specs.Program.{program_of}
+use Rattle.program_events.specs.NamedProgram.{program_of}
 
 -- core c executes its events before e, as far as it has not yet
 abbrev pub execute_to : List (List Op) → State → ℕ → ℕ → List Step

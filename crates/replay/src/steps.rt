@@ -6,17 +6,17 @@ ghost use Rattle.recording.specs.Order.{times};
 ghost use Rattle.recording.specs.Tso.{IsTsoOrder};
 ghost use Rattle.recording.specs.FirstUse.{IsNumberedByFirstUse};
 ghost use Rattle.recording.specs.Recording.{IsShortRecording};
-ghost use Rattle.replay.specs.Program.{program_of, named_program};
+ghost use Rattle.program_events.specs.NamedProgram.{program_of, named_program};
 ghost use Rattle.replay.specs.Steps.{most_stores, order_steps, replay_steps};
 ghost use Rattle.replay.specs.OrderReplay.{IsReplay};
 
 use crate::law::every_order_is_replayed;
-use crate::naming::named_program;
 use crate::replaying::Replay;
 use crate::stores::most_stores;
 use common::{EventId, OutOfMemory};
-use machine::{Fault, Machine, Step};
-use program::Program;
+use machine::{Machine, Step};
+use program::{Fault, Program};
+use program_events::named_program;
 use recording::Recording;
 use std::alloc::Global;
 

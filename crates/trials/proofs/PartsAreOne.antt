@@ -7,8 +7,8 @@ use Rattle.std.proofs.Math.Nat.{mod-add-mod}
 use Rattle.rand_core.specs.Steps.{first_words}
 use Rattle.rand_xoshiro.specs.SplitMix64.{splitmix_seed}
 use Rattle.rand_xoshiro.specs.Xoshiro256.{plus_plus, of_seed}
-use Rattle.campaign.specs.Campaigns.{Plan}
-use Rattle.campaign.specs.Shards.{AllShardsHaveAllTrials, EveryShardEndsAfterItsBeginning, trials_of_first}
+use Rattle.program.specs.Campaigns.{Plan}
+use Rattle.program.specs.Shards.{AllShardsHaveAllTrials, EveryShardEndsAfterItsBeginning, trials_of_first}
 use Rattle.litmus.specs.Random.{after_words, program_of_words}
 use Rattle.machine.specs.Configuration.{Configuration}
 use Rattle.trials.specs.Codes.{AreCodes, IsCode, event_words}

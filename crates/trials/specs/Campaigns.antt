@@ -1,2 +1,2 @@
 -- What the trials of a campaign have in common.
-pub use Rattle.campaign.specs.Campaigns.{Plan, IsPlan, plan_of}
+pub use Rattle.program.specs.Campaigns.{Plan, IsPlan, plan_of}

@@ -4,12 +4,12 @@ use Rattle.program.specs.Parts.{Parts}
 use Rattle.recording.specs.Execution.{Execution}
 use Rattle.recording.specs.Recording.{IsShortRecording}
 use Rattle.recording.specs.Tso.{IsTsoOrder}
-use Rattle.machine.specs.declared.fault.Fault.{Fault}
-use Rattle.machine.specs.declared.fault.Fault.TheVariants as faults
+use Rattle.program.specs.declared.fault.Fault.{Fault}
+use Rattle.program.specs.declared.fault.Fault.TheVariants as faults
 use Rattle.machine.specs.declared.step.Step.{Step}
 use Rattle.machine.specs.Taken.{begun}
 use Rattle.machine.specs.Configuration.{Configuration, IsAtEnd, recording_of, state_after}
-use Rattle.machine.specs.ProgramOf.{IsProgramOf}
+use Rattle.program_events.specs.ProgramOf.{IsProgramOf}
 use Rattle.verdicts.specs.declared.verdict.Verdict.{Verdict}
 use Rattle.verdicts.specs.declared.verdict.Verdict.TheVariants.{Ordered, Overlook, Cycle}
 use Rattle.verdicts.specs.Judgement.{IsVerdict}

@@ -1,10 +1,9 @@
 -- A legal desk: its words, and what each seat claimed, filed and saw.
-use Rattle.std.specs.Prelude.{◌≡◌, ◌≢◌, ◌⊎◌, ℕ, true, false, List, [], ◌∷◌, ◌++◌, length, slice_index}
-use Rattle.std.specs.Prelude.{Contains}
+use Rattle.std.specs.Prelude.{◌≡◌, ◌≢◌, ◌⊎◌, ℕ, true, false, List, [], ◌∷◌, ◌++◌, length, slice_index, Contains}
 use mathlib.Core.Option.{some}
 use lib.ListN.{get_elem?}
 use Rattle.atomic_table.specs.Table.{State, Me, Step}
-use Rattle.machine.specs.declared.fault.Fault.TheVariants.{None}
+use Rattle.program.specs.declared.fault.Fault.TheVariants.{None}
 use Rattle.trials.specs.declared.desk_table.SeatKnowledge.{SeatKnowledge}
 use Rattle.trials.specs.Campaigns.{Plan}
 use Rattle.trials.specs.Codes.{IsCode}

@@ -1,7 +1,7 @@
 -- Parts of a campaign, and what they are together.
 use Rattle.std.specs.Prelude.{◌≡◌, ◌<◌, ◌+◌, ◌-◌, ◌%◌, ◌^◌, ◌++◌, ℕ, List, [], zero, suc}
-use Rattle.campaign.specs.Campaigns.{Plan}
-use Rattle.campaign.specs.Shards.{trials_of_first}
+use Rattle.program.specs.Campaigns.{Plan}
+use Rattle.program.specs.Shards.{trials_of_first}
 use Rattle.trials.specs.Codes.{AreCodes}
 
 -- this many trials of a campaign, from one on, as a campaign

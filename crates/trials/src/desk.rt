@@ -8,8 +8,8 @@ ghost use Rattle.trials.specs.Looking.{IsDeskSeatOf, IsLook, LoadsWord};
 use crate::desk_table::{Claims, DeskTable, Files, Looks};
 use crate::filed::Filed;
 use crate::seat::{Desk, DeskSeat, Look};
-use campaign::Campaign;
 use common::OutOfMemory;
+use program::Campaign;
 use std::alloc::Global;
 use std::sync::Arc;
 

@@ -1,7 +1,7 @@
 //! The rule of the desk's words, and what each kind of step tells.
 
 use atomic_table::{Join, Play, Split, Table, TableRule};
-use campaign::Campaign;
+use program::Campaign;
 use std::alloc::Global;
 use std::collections::LinkedList;
 

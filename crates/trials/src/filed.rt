@@ -1,7 +1,7 @@
 //! Trials with their codes.
 
-use campaign::Campaign;
 use ledger::is_violation;
+use program::Campaign;
 use std::marker::Model;
 
 /// A trial of a campaign with its code, which its type keeps to be that of the trial.

@@ -2,14 +2,14 @@
 
 ghost use Rattle.std.specs.Prelude.{◌≡◌, IfOk};
 ghost use Rattle.trials.specs.Codes.{end_code, IsShortEnd};
-ghost use Rattle.machine.specs.declared.fault.Fault.TheVariants as faults;
+ghost use Rattle.program.specs.declared.fault.Fault.TheVariants as faults;
 ghost use Rattle.trials.specs.Judged.{begun_machine, ran, IsEndVerdict, IsJudgedEnd, IsLawful};
 
 use common::OutOfMemory;
 use judge::{Verdict, judge_alone};
 use ledger::{Finding, UNFINISHED};
-use machine::{Fault, Machine, Step};
-use program::Program;
+use machine::{Machine, Step};
+use program::{Fault, Program};
 use recording::Recording;
 use std::alloc::Global;
 

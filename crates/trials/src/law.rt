@@ -4,7 +4,7 @@ ghost use Rattle.trials.specs.OneLedger.{EveryTrialHasOneCode, EveryCampaignHasO
 ghost use Rattle.trials.specs.OneLedger.{EveryCampaignAddsUp, EveryTrialHasItsKind};
 ghost use Rattle.trials.specs.Parts.{AllShardsAreTheCampaign, EveryTwoPartsAreOne};
 
-use campaign::shards_have_all_trials;
+use program::shards_have_all_trials;
 
 /// What holds of the codes and the ledgers of every campaign. It does nothing.
 pub(crate) fn a_campaign_has_one_ledger()

@@ -4,8 +4,7 @@ ghost use Rattle.std.specs.Prelude.{◌≤◌};
 ghost use Rattle.common.specs.declared.limits.TheConstants.{MAX_WORKERS};
 
 use common::{Gate, OpenGate, OutOfMemory};
-use machine::Fault;
-use program::Shape;
+use program::{Fault, Shape};
 use report::campaign_text;
 use std::alloc::Global;
 use std::sync::Wait;

@@ -7,7 +7,7 @@ ghost use Rattle.trials.specs.Looking.{IsDeskSeatOf};
 
 use crate::campaigns::campaign;
 use common::{Gate, OpenGate};
-use machine::Fault;
+use program::Fault;
 use std::alloc::Global;
 use std::sync::Wait;
 use std::sync::atomic::{AtomicBool, Ordering};

@@ -3,7 +3,8 @@
 use common::EventId;
 use judge::Verdict;
 use litmus::parse;
-use machine::{Fault, parse_steps};
+use machine::parse_steps;
+use program::Fault;
 use std::alloc::Global;
 use std::test::Fail;
 use trials::run_and_judge;

@@ -6,7 +6,7 @@ use crate::campaigns::campaign;
 use common::{MAX_EVENTS, OutOfMemory};
 use judge::{Verdict, judge_alone};
 use long::{LongAnswer, judge_long};
-use machine::Fault;
+use program::Fault;
 use recording::Recording;
 use relations::Places;
 use std::alloc::Global;

@@ -7,7 +7,7 @@ use crate::campaigns::{campaign, ledger_by};
 use crate::told::many_lines;
 use common::Gate;
 use devices::{Failed, Source};
-use machine::Fault;
+use program::Fault;
 use report::{MemorySink, MemorySource};
 use std::alloc::{AllocError, Global};
 use std::sync::Wait;

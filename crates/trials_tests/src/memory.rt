@@ -7,7 +7,7 @@ ghost use Rattle.common.specs.declared.limits.TheConstants.{MAX_WORKERS};
 
 use crate::campaigns::campaign;
 use common::Gate;
-use machine::Fault;
+use program::Fault;
 use std::alloc::Global;
 use std::sync::Wait;
 use std::sync::atomic::{AtomicUsize, Ordering};

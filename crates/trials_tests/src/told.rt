@@ -5,7 +5,7 @@ ghost use Rattle.common.specs.declared.limits.TheConstants.{MAX_WORKERS};
 
 use crate::campaigns::{campaign, ledger_by};
 use common::Gate;
-use machine::Fault;
+use program::Fault;
 use report::{MemorySink, MemorySource};
 use std::alloc::{AllocError, Global};
 use std::sync::Wait;

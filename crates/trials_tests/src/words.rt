@@ -2,8 +2,8 @@
 
 use common::OutOfMemory;
 use litmus::{generate, parse, print};
-use machine::{Blocked, Fault, Machine, Step};
-use program::Shape;
+use machine::{Blocked, Machine, Step};
+use program::{Fault, Shape};
 use rand_core::SeedableRng;
 use rand_xoshiro::Xoshiro256PlusPlus;
 use std::alloc::Global;

@@ -1,7 +1,7 @@
 -- What is answered of the outcomes of a program, by its text.
 use Rattle.std.specs.Prelude.{◌≡◌, ◌⊎◌, ℕ, List, Ok}
 use Rattle.program.specs.Parts.{Parts}
-use Rattle.program.specs.Text.{reading}
+use Rattle.litmus.specs.Text.{reading}
 use Rattle.verdicts.specs.declared.printed.Answer.{Answer}
 use Rattle.answers.specs.Outcomes.{IsOutcomesAnswer}
 use Rattle.tsotest_library.specs.Refused.{AreStatesRefused, IsLineRefused}

@@ -1,12 +1,12 @@
 -- Why a number of states, or the text of a program, is refused.
 use Rattle.std.specs.Prelude.{◌≡◌, ◌⊎◌, ◌++◌, ◌∷◌, [], ℕ, List, true, Ok, Err, codes}
-use Rattle.program.specs.declared.refusal.LineRefusal.{LineRefusal}
+use Rattle.litmus.specs.declared.refusals.LineRefusal.{LineRefusal}
 use Rattle.litmus.specs.Refusals.{line_refusal_name, refusal_line}
 use Rattle.program.specs.Parts.{Parts}
 use Rattle.program.specs.Shapes.{is_outside}
-use Rattle.program.specs.Text.{reading}
+use Rattle.litmus.specs.Text.{reading}
 use Rattle.recording.specs.Execution.{Execution}
-use Rattle.machine.specs.ProgramOf.{IsProgramOf}
+use Rattle.program_events.specs.ProgramOf.{IsProgramOf}
 use Rattle.verdicts.specs.declared.outcome.Outcome.TheVariants.{Refused}
 use Rattle.verdicts.specs.declared.printed.Answer.{Answer}
 

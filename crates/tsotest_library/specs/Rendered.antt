@@ -2,11 +2,11 @@
 use Rattle.std.specs.Prelude.{◌≡◌, ◌≢◌, ◌⊎◌, [], ℕ, List, Option, None, Some, Result, Ok, Err}
 use Rattle.program.specs.Parts.{Parts}
 use Rattle.program.specs.declared.program.Program.{Program}
-use Rattle.program.specs.Text.{reading}
+use Rattle.litmus.specs.Text.{reading}
 use Rattle.recording.specs.Execution.{Execution}
 use Rattle.recording.specs.declared.size.RecordingSize.TheVariants.{Long}
 use Rattle.recorder.specs.Reading.{IsReadingOf, IsReadingResult}
-use Rattle.machine.specs.ProgramOf.{IsProgramOf}
+use Rattle.program_events.specs.ProgramOf.{IsProgramOf}
 use Rattle.verdicts.specs.declared.printed.Answer.{Answer}
 use Rattle.report.specs.Answer.{IsRefusedAnswer, IsRefusedOf}
 use Rattle.answers.specs.declared.rendering.Rendering.{Rendering}

@@ -6,8 +6,7 @@ ghost use Rattle.tsotest_library.specs.Listed.{IsListedOf};
 use crate::states::states_refusal;
 use answers::outcomes_answer;
 use common::OutOfMemory;
-use litmus::{line_refusal_name, parse, refusal_line};
-use program::LitmusError;
+use litmus::{LitmusError, line_refusal_name, parse, refusal_line};
 use report::{Answer, Outcome};
 use std::alloc::Global;
 

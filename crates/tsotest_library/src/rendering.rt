@@ -7,9 +7,9 @@ ghost use Rattle.tsotest_library.specs.Rendered.{IsLongRenderedOf, IsOwnOrRefuse
 use answers::{Rendering, long_rendered_answer, rendered_answer};
 use common::OutOfMemory;
 use event_texts::Labels;
-use explanation::is_program_of;
-use litmus::{line_refusal_name, parse, refusal_line};
-use program::{LitmusError, Program};
+use litmus::{LitmusError, line_refusal_name, parse, refusal_line};
+use program::Program;
+use program_events::is_program_of;
 use recording::{Recording, RecordingSize};
 use report::{Answer, Outcome, read_or_refuse, read_or_refuse_of};
 use std::alloc::Global;

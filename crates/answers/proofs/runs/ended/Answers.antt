@@ -4,8 +4,8 @@ use Rattle.program.specs.Parts.{Parts}
 use Rattle.recording.specs.Execution.{Execution}
 use Rattle.recorder.specs.Text.{recording_text}
 use Rattle.recording.specs.Tso.{IsTsoOrder}
-use Rattle.machine.specs.declared.fault.Fault.{Fault}
-use Rattle.machine.specs.declared.fault.Fault.TheVariants as faults
+use Rattle.program.specs.declared.fault.Fault.{Fault}
+use Rattle.program.specs.declared.fault.Fault.TheVariants as faults
 use Rattle.machine.specs.State.{State, IsComplete, recorded}
 use Rattle.trials.specs.declared.judging.Judged.{Judged}
 use Rattle.trials.specs.Judged.{IsJudgement, IsJudgedEnd}

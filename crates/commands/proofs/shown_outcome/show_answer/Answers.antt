@@ -1,4 +1,4 @@
-use Rattle.machine.specs.ProgramLaws.{short_of_program}
+use Rattle.program_events.specs.ProgramLaws.{short_of_program}
 use Rattle.commands.proofs.shown_outcome.show_answer.Goals as goal
 
 pub replayed_recording-requires-clause-short : goal.replayed_recording-requires-clause-short

@@ -1,7 +1,7 @@
 use Rattle.std.proofs.Common.{ap, ◌∙◌}
 use Rattle.program.specs.declared.op.Op.{Op}
 use Rattle.litmus.specs.Built.{state}
-use Rattle.program.specs.Steps.{with_op}
+use Rattle.litmus.specs.Steps.{with_op}
 use Rattle.litmus.proofs.Drawn.{access_is}
 use Rattle.litmus.proofs.random.add_word.Goals as goal
 

@@ -5,13 +5,12 @@ use Rattle.rand_core.specs.Steps.{first_words}
 use Rattle.rand_xoshiro.specs.Xoshiro256.{plus_plus}
 use Rattle.litmus.specs.Built.{state}
 use Rattle.program.specs.Parts.{Body, Parts, IsProgram, op_count}
-use Rattle.program.specs.Steps.{empty}
-use Rattle.program.proofs.DraftLemmas.{program_is}
-use Rattle.program.specs.Drafts.{Draft, plain, drafted_program}
+use Rattle.litmus.specs.Steps.{empty}
+use Rattle.litmus.proofs.DraftLemmas.{program_is}
+use Rattle.litmus.specs.Drafts.{Draft, plain, drafted_program}
 use Rattle.litmus.specs.Random.{IsDrawn, after_words, with_core, with_cores, with_words}
 use Rattle.litmus.proofs.Drawn.{keeps_empty}
-use Rattle.litmus.proofs.NextWords.{cores_turn, cores_end, after_core, after_end, more_words}
-use Rattle.litmus.proofs.NextWords.{no_words, so_many}
+use Rattle.litmus.proofs.NextWords.{cores_turn, cores_end, after_core, after_end, more_words, no_words, so_many}
 use Rattle.litmus.proofs.random.generate.Goals as goal
 
 pub loop-core-init : goal.loop-core-init

@@ -3,7 +3,7 @@ use Rattle.rand_core.specs.Steps.{first_words}
 use Rattle.rand_xoshiro.specs.Xoshiro256.{plus_plus}
 use Rattle.litmus.specs.Built.{state}
 use Rattle.program.specs.Parts.{op_count}
-use Rattle.program.specs.Steps.{empty}
+use Rattle.litmus.specs.Steps.{empty}
 use Rattle.litmus.specs.Random.{IsDrawn, after_words, with_cores}
 use Rattle.litmus.proofs.random.generate.Given as goal
 

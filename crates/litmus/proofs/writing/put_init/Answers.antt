@@ -1,6 +1,6 @@
 use Rattle.std.proofs.Common.{◌++◌, get_or, ap, sym, ◌∙◌}
 use Rattle.std.proofs.lemmas.List.{append_assoc}
-use Rattle.program.specs.Spelling.{value_text}
+use Rattle.litmus.specs.Spelling.{value_text}
 use Rattle.litmus.proofs.Initial.{init_push}
 use Rattle.litmus.proofs.writing.put_init.Goals as goal
 

@@ -1,5 +1,5 @@
 use Rattle.std.proofs.Common.{◌≡◌, ◌++◌, take}
-use Rattle.program.specs.Spelling.{init_text}
+use Rattle.litmus.specs.Spelling.{init_text}
 use Rattle.litmus.proofs.writing.put_init.Given as goal
 
 abbrev pub invariant-loop-addr : goal.invariant-loop-addr

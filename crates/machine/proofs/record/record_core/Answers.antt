@@ -5,7 +5,8 @@ use Rattle.std.proofs.lemmas.List.{drop_all}
 use Rattle.program.specs.declared.op.Op.{Op}
 use Rattle.recording.specs.declared.event.Event.{Event}
 use Rattle.machine.specs.Configuration.{BoundedItems}
-use Rattle.machine.specs.State.{event_of, events_from}
+use Rattle.program_events.specs.ProgramOf.{event_of}
+use Rattle.machine.specs.State.{events_from}
 use Rattle.machine.proofs.record.record_core.Goals as goal
 
 -- a list with its room

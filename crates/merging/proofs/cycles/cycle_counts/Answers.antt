@@ -1,12 +1,18 @@
 use Rattle.std.proofs.Common.{◌≡◌, ◌∙◌, ◌≤◌, ◌-◌, ℕ, List, ap, arith, get_or, inl, inr, refl, replicate, rules, sym}
 use Rattle.std.proofs.lemmas.Bool.{cases_lt, false≢true}
-use Rattle.std.proofs.lemmas.List.{ext_get_or, get_or-set_other}
-use Rattle.machine.proofs.Opening.{get_or_same}
+use Rattle.std.proofs.lemmas.List.{ext_get_or, get_or-replicate, get_or-set_other, get_or_past, length-replicate}
 use Rattle.merging.proofs.CycleTexts.{line_read, lines_all, none_read, one_more}
 use Rattle.merging.proofs.cycles.cycle_counts.Goals as goal
 use Rattle.merging.proofs.cycles.cycle_counts.Goals.{else-lines-test, then-lines-test+then-cycle-least}
 use Rattle.merging.proofs.cycles.cycle_counts.Goals.{then-cycle-least-via-then-cycle-least}
 use Rattle.merging.proofs.cycles.cycle_counts.Goals.{then-cycle-least-via-else-cycle-least+then-cycle-gt-LONG_CYCLE}
+
+-- before the first line no cycle is counted
+none_counted : (v : ℕ) → get_or (replicate 514 0) v 0 ≡ 0
+none_counted v = elim (cases_lt v 514) [
+  | inl inside ↦ get_or-replicate 514 v 0 0 inside
+  | inr past ↦ get_or_past (replicate 514 0) v 0 (omega (arith, past, length-replicate {A = ℕ} 514 0))
+]
 
 pub lines-init : goal.lines-init
 lines-init c =
@@ -14,7 +20,7 @@ lines-init c =
     c.in_ok-resize.ensures.items ∙ rw (c.new-counts.ensures.items, c.new-counts.ensures.len) refl in record {
       size = search rules;
       few = omega arith;
-      zeros = λ v from. ap (λ (l : List ℕ). get_or l v 0) zeros ∙ get_or_same 514 v 0;
+      zeros = λ v from. ap (λ (l : List ℕ). get_or l v 0) zeros ∙ none_counted v;
       only = λ counts more size short begins is. record {
         same = λ v low. absurd (omega (arith, low));
         left = is ∙ lines_all counts more size;

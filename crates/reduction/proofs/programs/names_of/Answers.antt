@@ -1,7 +1,6 @@
 use Rattle.std.proofs.Common.{◌≡◌, ◌∙◌, ℕ, List, map, take, get_or, ap}
 use Rattle.program.specs.declared.name.Name.{Name}
-use Rattle.program.specs.Spelling.{name_at}
-use Rattle.program.specs.Steps.{names_with}
+use Rattle.program.specs.Names.{name_at, names_with}
 use Rattle.reduction.proofs.Lawful.{name_more}
 use Rattle.reduction.proofs.programs.names_of.Goals as goal
 

@@ -1,5 +1,5 @@
 use Rattle.std.proofs.Common.{◌≡◌, map, take}
-use Rattle.program.specs.Spelling.{name_at}
+use Rattle.program.specs.Names.{name_at}
 use Rattle.reduction.proofs.programs.names_of.Given as goal
 
 abbrev pub invariant-loop-address : goal.invariant-loop-address

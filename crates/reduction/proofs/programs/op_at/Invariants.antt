@@ -1,7 +1,7 @@
 use Rattle.std.proofs.Common.{◌≡◌, drop, get_or}
 use Rattle.program.specs.declared.op.Op.TheVariants.{Fence}
 use Rattle.recording.specs.Execution.{placed_from}
-use Rattle.machine.specs.Orderly.{placed_op}
+use Rattle.program_events.specs.Operations.{placed_op}
 use Rattle.reduction.proofs.programs.op_at.Given as goal
 
 abbrev pub invariant-loop-list : goal.invariant-loop-list

@@ -1,10 +1,9 @@
 use Rattle.std.proofs.Common.{◌≡◌, ◌∙◌, ℕ, List, Vec, Global, map, length, arith, ap, sym, subst}
 use Rattle.std.specs.List.{IsDistinct}
-use Rattle.program.specs.Names.{name_eq}
+use Rattle.program.specs.Names.{name_eq, name_at}
 use Rattle.program.specs.Parts.{Parts, IsProgram, parts_of}
-use Rattle.program.specs.Spelling.{name_at}
-use Rattle.machine.specs.ProgramLaws.{short_of_program}
-use Rattle.machine.specs.ProgramOf.{IsProgramOf}
+use Rattle.program_events.specs.ProgramLaws.{short_of_program}
+use Rattle.program_events.specs.ProgramOf.{IsProgramOf}
 use Rattle.reduction.specs.Restriction.{restriction}
 use Rattle.reduction.specs.RestrictedProgram.{restricted_program}
 use Rattle.reduction.proofs.Lawful.{names_kept, restricted_from, restricted_is_program}

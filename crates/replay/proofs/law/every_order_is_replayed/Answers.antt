@@ -1,4 +1,4 @@
-use Rattle.machine.specs.declared.fault.Fault.TheVariants.{None}
+use Rattle.program.specs.declared.fault.Fault.TheVariants.{None}
 use Rattle.replay.proofs.EveryOrder.{every_order_is_replayed, makes_exactly_tso}
 use Rattle.replay.proofs.law.every_order_is_replayed.Goals as goal
 

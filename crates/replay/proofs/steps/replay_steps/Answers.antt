@@ -1,11 +1,11 @@
 use Rattle.std.proofs.Common.{◌≡◌, ◌∙◌, ℕ, List, ap, subst, length}
 use Rattle.program.specs.Parts.{Parts, IsProgram}
 use Rattle.recording.specs.Execution.{Execution}
-use Rattle.machine.specs.declared.fault.Fault.TheVariants as fault
+use Rattle.program.specs.declared.fault.Fault.TheVariants as fault
 use Rattle.machine.specs.State.{opening}
 use Rattle.machine.specs.Configuration.{Configuration}
 use Rattle.replay.specs.Steps.{most_stores, order_steps, replay_steps, Replaying}
-use Rattle.replay.specs.Program.{named_program}
+use Rattle.program_events.specs.NamedProgram.{named_program}
 use Rattle.replay.specs.OrderReplay.{IsReplayable}
 use Rattle.program.specs.AddressNameLaws.{names_count}
 use Rattle.replay.proofs.steps.replay_steps.Goals as goal

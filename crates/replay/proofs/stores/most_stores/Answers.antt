@@ -1,8 +1,7 @@
-use Rattle.std.proofs.Common.{◌≡◌, ◌∙◌, [], max, map, drop, ap, sym, arith, List, Vec, Global}
-use Rattle.std.proofs.Common.{drop_of_length-le}
+use Rattle.std.proofs.Common.{◌≡◌, ◌∙◌, [], max, map, drop, ap, sym, arith, List, Vec, Global, drop_of_length-le}
 use Rattle.recording.specs.declared.event.Event.{Event}
 use Rattle.replay.specs.Steps.{most_stores}
-use Rattle.replay.proofs.NamedProgram.{most_of_one, most_one}
+use Rattle.replay.proofs.MostStores.{most_of_one, most_one}
 use Rattle.replay.proofs.stores.most_stores.Goals as goal
 
 pub loop-events-init : goal.loop-events-init

@@ -1,8 +1,8 @@
 use Rattle.std.proofs.Common.{subst, sym, ◌≡◌, ℕ, All, length}
 use Rattle.program.specs.Parts.{Parts, IsWithin}
 use Rattle.recording.specs.Tso.{IsTsoOrder}
-use Rattle.machine.specs.declared.fault.Fault.{Fault}
-use Rattle.machine.specs.declared.fault.Fault.TheVariants as fault
+use Rattle.program.specs.declared.fault.Fault.{Fault}
+use Rattle.program.specs.declared.fault.Fault.TheVariants as fault
 use Rattle.machine.specs.State.{State, recorded, IsComplete}
 use Rattle.machine.specs.Step.{run}
 use Rattle.machine.specs.Taken.{begun}

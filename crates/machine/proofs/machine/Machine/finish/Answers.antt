@@ -3,7 +3,7 @@ use Rattle.std.proofs.lemmas.List.{length-map}
 use Rattle.common.specs.declared.limits.TheConstants.{MAX_ADDRESSES}
 use Rattle.machine.specs.Configuration.{BoundedItems, BlankSize, Configuration, state_from}
 use Rattle.machine.specs.State.{State, IsComplete}
-use Rattle.machine.specs.ProgramOf.{IsProgramOf}
+use Rattle.program_events.specs.ProgramOf.{IsProgramOf}
 use Rattle.recording.specs.declared.size.RecordingSize.TheVariants.{Short}
 use Rattle.recording.specs.RecordingLaws.{recording_of_size}
 use Rattle.machine.proofs.InOrder.{IsInOrder}

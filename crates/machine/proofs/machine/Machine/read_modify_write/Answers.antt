@@ -1,7 +1,7 @@
 use Rattle.std.proofs.Common.{arith, refl, sym, ◌∙◌, length-set}
 use Rattle.recording.specs.Event.{value_written}
 use Rattle.moesi.specs.State as moesi
-use Rattle.machine.specs.State.{event_of}
+use Rattle.program_events.specs.ProgramOf.{event_of}
 use Rattle.machine.proofs.Cached.{read_is, unread_unwritten}
 use Rattle.machine.proofs.Parts.{few, lines_there, buffer_seen}
 use Rattle.machine.proofs.ExecuteParts as executed

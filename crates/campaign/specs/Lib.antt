@@ -1,2 +1,0 @@
-pub mod Campaigns
-pub mod Shards

@@ -1,2 +1,0 @@
--- When a recording is one of a program.
-pub use Rattle.machine.specs.ProgramOf.{Makes, AreOpsOf, IsProgramOf}

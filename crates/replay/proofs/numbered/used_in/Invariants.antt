@@ -1,8 +1,0 @@
-use Rattle.std.proofs.Common.{◌≡◌, map, drop}
-use Rattle.program.specs.Parts.{use_ops}
-use Rattle.replay.specs.Program.{op_of}
-use Rattle.replay.proofs.numbered.used_in.Given as goal
-
-abbrev pub invariant-loop-event : goal.invariant-loop-event
-invariant-loop-event l = use_ops l.used (map op_of (drop l.event-index l.events)) ≡ use_ops l.first
-    (map op_of l.events)
