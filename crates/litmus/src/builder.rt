@@ -42,7 +42,7 @@ impl Builder {
     }
 
     /// A line `core`.
-    #[tactic(auto, unfolding(litmus::specs::Steps::core_step))]
+    #[tactic(auto, unfolding(crate::specs::Steps::core_step))]
     pub fn begin_core(&mut self, alloc: Global, number: usize) -> Result<(), LitmusError>
         ensures { AnswersLine (seen_as result (λ _. state self.new)) number
             (core_step (state self.old)) }
@@ -87,7 +87,7 @@ impl Builder {
     }
 
     /// A line `fence`.
-    #[tactic(auto, unfolding(litmus::specs::Steps::fence_step))]
+    #[tactic(auto, unfolding(crate::specs::Steps::fence_step))]
     pub fn fence(&mut self, number: usize) -> Result<(), LitmusError>
         ensures { AnswersLine (seen_as result (λ _. state self.new)) number
             (fence_step (state self.old)) }
@@ -121,7 +121,7 @@ impl Builder {
     }
 
     /// A line `ld`.
-    #[tactic(auto, unfolding(litmus::specs::Steps::load_step))]
+    #[tactic(auto, unfolding(crate::specs::Steps::load_step))]
     pub fn load(&mut self, name: Name, number: usize) -> Result<(), LitmusError>
         ensures { AnswersLine (seen_as result (λ _. state self.new)) number
             (load_step (state self.old) name) }
@@ -132,7 +132,7 @@ impl Builder {
     }
 
     /// A line `st`, `swap` or `add`. The addresses are tested before the value.
-    #[tactic(auto, unfolding(litmus::specs::Steps::write_step))]
+    #[tactic(auto, unfolding(crate::specs::Steps::write_step))]
     pub fn write(
         &mut self,
         write: WriteKind,
@@ -153,7 +153,7 @@ impl Builder {
     }
 
     /// A line `cas`. The addresses are tested before the values.
-    #[tactic(auto, unfolding(litmus::specs::Steps::compare_step))]
+    #[tactic(auto, unfolding(crate::specs::Steps::compare_step))]
     pub fn compare(
         &mut self,
         name: Name,

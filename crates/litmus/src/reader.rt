@@ -58,7 +58,7 @@ impl Reader {
     }
 
     // The value's size is tested before its name, and that it is 0 at last.
-    #[tactic(auto, unfolding(litmus::specs::Drafts::init_step))]
+    #[tactic(auto, unfolding(crate::specs::Drafts::init_step))]
     fn init(&mut self, name: Name, value: Number, number: usize) -> Result<(), LitmusError>
         ensures { (n : ℕ) → IsValue value n →
             AnswersLine (seen_as result (λ _. draft self.new)) number
