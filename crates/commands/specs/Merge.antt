@@ -1,28 +1,27 @@
 -- What merge answers.
 use Rattle.std.specs.Prelude.{◌≡◌, ◌<◌, ◌+◌, ◌++◌, ◌∷◌, ◌==◌, ◌||◌, [], ℕ, Bool, List, Option, codes, decimal, false}
-use Rattle.std.specs.Prelude.{length, map}
-use Rattle.std.specs.Prelude.{if◌then◌else◌, slice_index, slice_index_or, string_bytes, take, true}
+use Rattle.std.specs.Prelude.{length, map, if◌then◌else◌, slice_index, slice_index_or, string_bytes, take, true}
 use Rattle.std.specs.List.{AllZip, concat}
 use Rattle.command_line.specs.declared.options.MergeOptions.{MergeOptions}
 use Rattle.ledger.specs.declared.ledger.Ledger.{Ledger}
 use Rattle.headers.specs.Headers.{header_line}
 use Rattle.ledger.specs.Counted.{count_line}
 use Rattle.ledger.specs.Counts.{IsLedger}
-use Rattle.merging.specs.declared.error.MergeError.{MergeError}
-use Rattle.merging.specs.declared.error.MergeError.TheVariants as errors
-use Rattle.merging.specs.declared.error.Seam.{Seam}
-use Rattle.merging.specs.declared.joined.Gaps.{Gaps}
-use Rattle.merging.specs.declared.joined.Gaps.TheVariants as gaps
-use Rattle.merging.specs.declared.joined.Joined.{Joined}
-use Rattle.merging.specs.Ordered.{AreJoined, IsNoJoin}
-use Rattle.merging.specs.Sections.{kind_of}
-use Rattle.merging.specs.declared.error.MergeRefusal.{MergeRefusal}
-use Rattle.merging.specs.declared.error.MergeRefusal.TheVariants.{NoLine, NoCodes, NoHeader, OtherCampaign, OtherKind}
-use Rattle.merging.specs.declared.error.MergeRefusal.TheVariants.{TooMany}
-use Rattle.merging.specs.declared.kind.Kind.{Kind}
-use Rattle.merging.specs.declared.kind.Kind.TheVariants.{Campaign, Survey}
-use Rattle.merging.specs.Merges.{Refuses}
-use Rattle.merging.specs.Texts.{AreFiles}
+use Rattle.ledger.specs.declared.merge_error.MergeError.{MergeError}
+use Rattle.ledger.specs.declared.merge_error.MergeError.TheVariants as errors
+use Rattle.ledger.specs.declared.merge_error.Seam.{Seam}
+use Rattle.ledger.specs.declared.joined.Gaps.{Gaps}
+use Rattle.ledger.specs.declared.joined.Gaps.TheVariants as gaps
+use Rattle.ledger.specs.declared.joined.Joined.{Joined}
+use Rattle.ledger.specs.Ordered.{AreJoined, IsNoJoin}
+use Rattle.ledger.specs.Sections.{kind_of}
+use Rattle.ledger.specs.declared.merge_error.MergeRefusal.{MergeRefusal}
+use Rattle.ledger.specs.declared.merge_error.MergeRefusal.TheVariants.{NoLine, NoCodes, NoHeader, OtherCampaign, OtherKind}
+use Rattle.ledger.specs.declared.merge_error.MergeRefusal.TheVariants.{TooMany}
+use Rattle.ledger.specs.declared.text_kind.Kind.{Kind}
+use Rattle.ledger.specs.declared.text_kind.Kind.TheVariants.{Campaign, Survey}
+use Rattle.ledger.specs.Merges.{Refuses}
+use Rattle.ledger.specs.Texts.{AreFiles}
 use Rattle.verdicts.specs.declared.printed.Answer.{Answer}
 use Rattle.answers.specs.Campaign.{IsTrialsAnswer}
 use Rattle.answers.specs.Survey.{IsSurveyAnswer}

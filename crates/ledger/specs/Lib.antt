@@ -8,3 +8,10 @@ pub mod Real
 pub mod Counted
 pub mod Surveyed
 pub mod SurveyedLaws
+pub mod Texts
+pub mod TextOf
+pub mod Merges
+pub mod Parts
+pub mod Sections
+pub mod Unread
+pub mod Ordered

@@ -1,5 +1,5 @@
 use Rattle.std.proofs.Common.{◌∙◌, ◌++◌, ℕ, List, ap, refl, subst}
-use Rattle.merging.specs.declared.kind.Kind.{Kind}
+use Rattle.ledger.specs.declared.text_kind.Kind.{Kind}
 use Rattle.headers.specs.Headers.{header_line}
 use Rattle.commands.specs.Merge.{IsMergedAnswer, missing_line}
 use Rattle.commands.proofs.merge_command.joined_answer.Goals as goal

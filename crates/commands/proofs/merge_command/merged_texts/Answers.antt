@@ -1,12 +1,12 @@
 use Rattle.std.proofs.Common.{◌∙◌, ℕ, List, map, subst, sym}
 use Rattle.std.specs.List.{concat}
 use Rattle.ledger.specs.declared.ledger.Ledger.{Ledger}
-use Rattle.merging.specs.declared.kind.Kind.{Kind}
-use Rattle.merging.specs.declared.kind.Kind.TheVariants.{Campaign, Survey}
-use Rattle.merging.specs.declared.merged.Merged.{Merged}
-use Rattle.merging.specs.Merges.{IsMerge}
-use Rattle.merging.specs.TextOf.{HasTextOf}
-use Rattle.merging.proofs.TextOfLemmas.{ledger_tells, one_text}
+use Rattle.ledger.specs.declared.text_kind.Kind.{Kind}
+use Rattle.ledger.specs.declared.text_kind.Kind.TheVariants.{Campaign, Survey}
+use Rattle.ledger.specs.declared.merged.Merged.{Merged}
+use Rattle.ledger.specs.Merges.{IsMerge}
+use Rattle.ledger.specs.TextOf.{HasTextOf}
+use Rattle.ledger.proofs.TextOfLemmas.{ledger_tells, one_text}
 use Rattle.verdicts.specs.declared.printed.Answer.{Answer}
 use Rattle.commands.specs.Merge.{IsMergeAnswer, IsMergedAnswer}
 use Rattle.commands.proofs.merge_command.merged_texts.Goals as goal

@@ -1,6 +1,0 @@
-use Rattle.std.proofs.Common.{◌≡◌, drop}
-use Rattle.merging.specs.Ordered.{first_from}
-use Rattle.merging.proofs.joined.first_from.Given as goal
-
-abbrev pub invariant-loop-section : goal.invariant-loop-section
-invariant-loop-section l = first_from l.base l.order ≡ first_from l.base (drop l.section-index l.order)
