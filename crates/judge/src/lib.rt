@@ -1,12 +1,11 @@
-//! The verdict on a recording, and its check.
+//! The verdict on a recording.
 #![tactic(auto)]
 
 mod alone;
-mod check;
 mod workers;
 
 pub use alone::judge_alone;
-pub use check::verify;
 pub use common::{Gate, OpenGate};
+pub use verdict_check::verify;
 pub use verdicts::Verdict;
 pub use workers::{judge, judge_gated};

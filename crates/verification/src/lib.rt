@@ -4,7 +4,6 @@
 mod answered;
 mod cycle_lines;
 mod fault;
-mod holding;
 mod labelled;
 mod law;
 mod numbers;

@@ -11,7 +11,6 @@ ghost use Rattle.verification.specs.Faults.{LinesHold, NamesFault};
 ghost use Rattle.verification.specs.Proof.{IsProof, IsTextOfVerdict};
 
 use crate::fault::fault;
-use crate::holding::{holds, holds_by};
 use crate::labelled::read_verdict;
 use crate::law::every_verdict_holds;
 use crate::printed::is_verdict_text;
@@ -20,6 +19,7 @@ use common::OutOfMemory;
 use recording::Recording;
 use std::alloc::Global;
 use std::thread::Threads;
+use verdict_check::{verify, verify_by};
 use verdicts::Verdict;
 
 /// Whether a text is a proof, where `holds` says whether a verdict holds.
@@ -96,7 +96,7 @@ pub fn check_text<R: Threads + Sync>(
         |verdict: &Verdict|
             requires { event_count recording.now ≤ MAX_EVENTS }
             ensures { IfOk result (λ is. IsTrue is ↔ Verifies recording.entry.now verdict.now) }
-        { holds_by(rt, alloc, recording, verdict, workers) },
+        { verify_by(rt, alloc, recording, verdict, workers) },
     )
 }
 
@@ -118,6 +118,6 @@ pub fn check_text_alone(
         |verdict: &Verdict|
             requires { event_count recording.now ≤ MAX_EVENTS }
             ensures { IfOk result (λ is. IsTrue is ↔ Verifies recording.entry.now verdict.now) }
-        { holds(alloc, recording, verdict) },
+        { verify(alloc, recording, verdict) },
     )
 }

@@ -5,7 +5,7 @@ use Rattle.relations.specs.Cycle.{IsCertificate}
 use Rattle.labels.specs.Certified.{lists_of}
 use Rattle.verdicts.specs.declared.verdict.Verdict.{Verdict}
 use Rattle.verdicts.specs.Verified.{Verifies}
-use Rattle.judge.proofs.check.verify.Goals as goal
+use Rattle.verdict_check.proofs.holding.verify.Goals as goal
 
 pub returns-in_ok-relation-in-Cycle-clause-exact : goal.returns-in_ok-relation-in-Cycle-clause-exact
 returns-in_ok-relation-in-Cycle-clause-exact c =
@@ -16,8 +16,8 @@ returns-in_ok-relation-in-Cycle-clause-exact c =
     let size = c.in_ok-relation-in-Cycle.ensures.size in
     let agree = c.relation_is_forced.ensures.certificates t x c.in_ok-relation-in-Cycle.ensures.related
     (event_count x) cycle rows in
-    let exact = c.check-in-Cycle.ensures.exact in
-    subst (λ (v : Verdict). IsTrue c.check-in-Cycle.result ↔ Verifies x v) (sym c.in-Cycle.is) (
+    let exact = c.check.ensures.exact in
+    subst (λ (v : Verdict). IsTrue c.check.result ↔ Verifies x v) (sym c.in-Cycle.is) (
       λ yes. agree.0 (subst (λ (n : ℕ). IsCertificate (Related t) n cycle rows) size (exact.0 yes)),
       λ verified. exact.1 (subst (λ (n : ℕ). IsCertificate (Related t) n cycle rows) (sym size)
           (agree.1 verified)),

@@ -2,7 +2,7 @@ use Rattle.std.proofs.Common.{subst, sym}
 use Rattle.std.specs.Prelude.{◌↔◌, IfOk, IsTrue}
 use Rattle.verdicts.specs.declared.verdict.Verdict.{Verdict}
 use Rattle.verdicts.specs.Verified.{Verifies}
-use Rattle.verification.proofs.holding.holds_by.Goals as goal
+use Rattle.verdict_check.proofs.holding.verify_by.Goals as goal
 
 pub returns-in-Cycle : goal.returns-in-Cycle
 returns-in-Cycle g c =
