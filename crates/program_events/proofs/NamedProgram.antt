@@ -1,5 +1,5 @@
 -- The program of a recording is lawful, and what its building makes.
-use Rattle.std.proofs.Common.{◌≡◌, ◌<◌, ◌≤◌, ◌^◌, ℕ, suc, List, [], ◌∷◌, map, length, Some}
+use Rattle.std.proofs.Common.{◌≡◌, ◌<◌, ◌≤◌, ◌^◌, ℕ, suc, List, [], map, length, Some}
 use Rattle.std.proofs.Common.{None, IsTrue, nat_eq, get_or, drop, arith, refl, sym, ap, ◌∙◌, Vec}
 use Rattle.std.proofs.Common.{Global, option_and_then, drop-cons, drop_of_length-le, eqb-true, eq-eqb, subst}
 use Rattle.std.specs.List.{AllByRecursion}
