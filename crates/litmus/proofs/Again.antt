@@ -6,8 +6,8 @@ use Rattle.std.proofs.lemmas.Bool.{eqb-true, le-ltb, lt-leb}
 use Rattle.std.proofs.lemmas.List.{length-append, append-nil, append_assoc}
 use Rattle.std.proofs.lemmas.List.Elements.{All-from_recursion}
 use Rattle.program.specs.declared.name.Name.{Name}
-use Rattle.litmus.specs.declared.refusals.LineRefusal.{LineRefusal}
-use Rattle.litmus.specs.declared.refusals.LineRefusal.TheVariants.{L1}
+use Rattle.litmus.specs.declared.line_refusal.LineRefusal.{LineRefusal}
+use Rattle.litmus.specs.declared.line_refusal.LineRefusal.TheVariants.{L1}
 use Rattle.program.specs.Names.{name_eq, name_of, name_text, no_name, name_at}
 use Rattle.litmus.specs.Lines.{init_line}
 use Rattle.program.specs.Parts.{Body, Parts, IsProgram, IsSmall, body_of, parts_of}

@@ -12,8 +12,8 @@ use Rattle.program.specs.declared.op.Op.{Op}
 use Rattle.program.specs.declared.op.Op.TheVariants.{St, Ld, Fence, Swap, Add, Cas}
 use Rattle.litmus.specs.declared.write_kind.WriteKind.{WriteKind}
 use Rattle.litmus.specs.declared.write_kind.WriteKind.TheVariants as writes
-use Rattle.litmus.specs.declared.refusals.LineRefusal.{LineRefusal}
-use Rattle.litmus.specs.declared.refusals.LineRefusal.TheVariants.{L1}
+use Rattle.litmus.specs.declared.line_refusal.LineRefusal.{LineRefusal}
+use Rattle.litmus.specs.declared.line_refusal.LineRefusal.TheVariants.{L1}
 use Rattle.common.specs.declared.limits.TheConstants.{MAX_CORES, MAX_EVENTS, MAX_ADDRESSES}
 use Rattle.program.specs.Names.{AreLawful, name_eq, name_of, name_text, no_name, names_with, name_number, name_at}
 use Rattle.litmus.specs.Lines.{Line, core_line, fence_line, load_line, write_line, compare_line}

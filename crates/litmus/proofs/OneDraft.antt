@@ -6,8 +6,8 @@ use Rattle.std.specs.List.{list_any}
 use Rattle.std.proofs.lemmas.Bool.{cases_Bool, ltb-false, leb-false, eqb-true}
 use Rattle.std.proofs.lemmas.List.{length-append, append-nil, append_assoc}
 use Rattle.program.specs.declared.name.Name.{Name}
-use Rattle.litmus.specs.declared.refusals.LineRefusal.{LineRefusal}
-use Rattle.litmus.specs.declared.refusals.LineRefusal.TheVariants.{L1, L5, L6, L7, L8}
+use Rattle.litmus.specs.declared.line_refusal.LineRefusal.{LineRefusal}
+use Rattle.litmus.specs.declared.line_refusal.LineRefusal.TheVariants.{L1, L5, L6, L7, L8}
 use Rattle.litmus.specs.Lines.{Line, core_line, fence_line, load_line, write_line, compare_line, init_line, parsed_line}
 use Rattle.program.specs.Names.{name_eq, name_number, name_at}
 use Rattle.program.specs.Parts.{Body, IsSmall}

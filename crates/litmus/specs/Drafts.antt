@@ -3,8 +3,8 @@ use Rattle.std.specs.Prelude.{◌≤◌, ℕ, List, [], ◌∷◌, ◌++◌, ◌
 use Rattle.std.specs.Prelude.{Option, None, Some, Result, Ok, Err, if◌then◌else◌}
 use Rattle.std.specs.List.{AllByRecursion}
 use Rattle.program.specs.declared.name.Name.{Name}
-use Rattle.litmus.specs.declared.refusals.LineRefusal.{LineRefusal}
-use Rattle.litmus.specs.declared.refusals.LineRefusal.TheVariants.{L1, L5, L6, L7, L8}
+use Rattle.litmus.specs.declared.line_refusal.LineRefusal.{LineRefusal}
+use Rattle.litmus.specs.declared.line_refusal.LineRefusal.TheVariants.{L1, L5, L6, L7, L8}
 use Rattle.litmus.specs.Lines.{Line, core_line, fence_line, load_line, write_line, compare_line, init_line, parsed_line}
 use Rattle.program.specs.Parts.{Body, Parts, IsBody, IsSmall, parts_of}
 use Rattle.litmus.specs.Steps.{empty, core_step, fence_step, load_step, write_step, compare_step, unless}

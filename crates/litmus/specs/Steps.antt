@@ -6,8 +6,8 @@ use Rattle.litmus.specs.declared.write_kind.WriteKind.{WriteKind}
 use Rattle.litmus.specs.declared.write_kind.WriteKind.TheVariants as writes
 use Rattle.program.specs.declared.op.Op.{Op}
 use Rattle.program.specs.declared.op.Op.TheVariants.{St, Ld, Fence, Swap, Add, Cas}
-use Rattle.litmus.specs.declared.refusals.LineRefusal.{LineRefusal}
-use Rattle.litmus.specs.declared.refusals.LineRefusal.TheVariants.{L1, L2, L3, L4, L5}
+use Rattle.litmus.specs.declared.line_refusal.LineRefusal.{LineRefusal}
+use Rattle.litmus.specs.declared.line_refusal.LineRefusal.TheVariants.{L1, L2, L3, L4, L5}
 use Rattle.common.specs.declared.limits.TheConstants.{MAX_CORES, MAX_EVENTS, MAX_ADDRESSES}
 use Rattle.program.specs.Names.{names_with, name_number}
 use Rattle.program.specs.Parts.{Body, op_count}

@@ -3,7 +3,7 @@
 ghost use Rattle.std.specs.Prelude.{◌≡◌};
 ghost use Rattle.litmus.specs.Steps.{write_op};
 
-use crate::refusals::{LineRefusal, LitmusError};
+use crate::line_refusal::{LineRefusal, LitmusError};
 use crate::write_kind::WriteKind;
 use common::{Addr, MAX_ADDRESSES, MAX_CORES, MAX_EVENTS, OutOfMemory};
 use indexmap::IndexSet;
@@ -21,7 +21,7 @@ pub struct Builder {
 impl Builder {
     ghost use Rattle.std.specs.Prelude.{◌≡◌, ◌≤◌, ◌<◌, ◌^◌, ℕ, Err, Ok, None, Result, OnOk, IfOk, IfErr, length};
     ghost use Rattle.program.specs.Parts.{Body};
-    ghost use Rattle.litmus.specs.declared.refusals.LineRefusal.{LineRefusal};
+    ghost use Rattle.litmus.specs.declared.line_refusal.LineRefusal.{LineRefusal};
     ghost use Rattle.texts.specs.declared.line_error.LineError.TheVariants.{OutOfMemory};
     ghost use Rattle.litmus.specs.Steps.{empty, core_step, fence_step, load_step, write_step, op_refusal};
     ghost use Rattle.litmus.specs.Steps.{at_name, with_op, write_op, compare_step};

@@ -3,10 +3,10 @@
 
 mod builder;
 mod line;
+mod line_refusal;
 mod one_text;
 mod random;
 mod reader;
-mod refusals;
 mod text;
 mod write_kind;
 mod writing;
@@ -15,9 +15,10 @@ pub use common::{
     Addr, CoreId, EventId, Gate, MAX_ADDRESSES, MAX_CAPACITY, MAX_CORES, MAX_EVENTS, MAX_STEPS,
     MAX_TRIALS, MAX_WORKERS, OpenGate,
 };
+pub use line_refusal::{LineRefusal, LitmusError, line_refusal_name};
 pub use one_text::has_one_text;
 pub use program::{Name, Op, Program, Shape, ShapeError};
 pub use random::generate;
-pub use refusals::{LineRefusal, LitmusError, line_refusal_name, refusal_line};
+pub use refusals::refusal_line;
 pub use text::parse;
 pub use writing::print;

@@ -4,7 +4,7 @@ ghost use Rattle.std.specs.Prelude.{◌≡◌};
 
 use crate::builder::Builder;
 use crate::line::{ParsedLine, parsed_line};
-use crate::refusals::{LineRefusal, LitmusError};
+use crate::line_refusal::{LineRefusal, LitmusError};
 use common::OutOfMemory;
 use program::{Name, Program};
 use std::alloc::Global;

@@ -1,6 +1,6 @@
 -- Why a number of states, or the text of a program, is refused.
 use Rattle.std.specs.Prelude.{◌≡◌, ◌⊎◌, ◌++◌, ◌∷◌, [], ℕ, List, true, Ok, Err, codes}
-use Rattle.litmus.specs.declared.refusals.LineRefusal.{LineRefusal}
+use Rattle.litmus.specs.declared.line_refusal.LineRefusal.{LineRefusal}
 use Rattle.litmus.specs.Refusals.{line_refusal_name, refusal_line}
 use Rattle.program.specs.Parts.{Parts}
 use Rattle.program.specs.Shapes.{is_outside}

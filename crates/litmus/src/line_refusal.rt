@@ -1,9 +1,9 @@
-//! Why texts are refused, and the lines that say so.
+//! Why a line of a litmus text is refused, and the name of the refusal.
 
-ghost use Rattle.std.specs.Prelude.{◌≡◌, IfOk, string_bytes};
-ghost use Rattle.litmus.specs.Refusals.{line_refusal_name, refusal_line};
+ghost use Rattle.std.specs.Prelude.{◌≡◌};
+ghost use Rattle.litmus.specs.Refusals.{line_refusal_name};
 
-use std::alloc::{AllocError, Global};
+use refusals::{L1, L2, L3, L4, L5, L6, L7, L8};
 use texts::LineError;
 
 /// Why a line of a litmus text is refused. Where several apply to one line, the first in this order
@@ -37,20 +37,13 @@ pub fn line_refusal_name(refusal: LineRefusal) -> &'static str
     ensures { result.now ≡ line_refusal_name refusal }
 {
     match refusal {
-        LineRefusal::L1 => "L1",
-        LineRefusal::L2 => "L2",
-        LineRefusal::L3 => "L3",
-        LineRefusal::L4 => "L4",
-        LineRefusal::L5 => "L5",
-        LineRefusal::L6 => "L6",
-        LineRefusal::L7 => "L7",
-        LineRefusal::L8 => "L8",
+        LineRefusal::L1 => L1.name,
+        LineRefusal::L2 => L2.name,
+        LineRefusal::L3 => L3.name,
+        LineRefusal::L4 => L4.name,
+        LineRefusal::L5 => L5.name,
+        LineRefusal::L6 => L6.name,
+        LineRefusal::L7 => L7.name,
+        LineRefusal::L8 => L8.name,
     }
-}
-
-/// The line that is printed for a line of a text, counted from 1. Fails only if out of memory.
-pub fn refusal_line(alloc: Global, name: &str, line: usize) -> Result<String, AllocError>
-    ensures { IfOk result (λ text. string_bytes text ≡ refusal_line name.now line) }
-{
-    format!(in alloc; "refused: {name} line {line}\n")
 }
