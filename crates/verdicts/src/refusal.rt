@@ -4,6 +4,7 @@ ghost use Rattle.std.specs.Prelude.{◌≡◌, IfOk, option_map, string_bytes};
 ghost use Rattle.verdicts.specs.Refusal.{recording_line};
 
 use recording::RecError;
+use refusals::{N1, N2, N3, N4, N5, N6, N7, refused, refused_at};
 use std::alloc::{AllocError, Global};
 
 /// The line that is printed for a refused recording; none where memory ran out.
@@ -11,13 +12,13 @@ pub fn recording_line(alloc: Global, refusal: RecError) -> Result<Option<String>
     ensures { IfOk result (λ line. option_map string_bytes line ≡ recording_line refusal) }
 {
     let line = match refusal {
-        RecError::NotJson => String::from_str(alloc, "refused: N1\n")?,
-        RecError::Shape => String::from_str(alloc, "refused: N2\n")?,
-        RecError::Version => String::from_str(alloc, "refused: N3\n")?,
-        RecError::Limits => String::from_str(alloc, "refused: N4\n")?,
-        RecError::Source(event) => format!(in alloc; "refused: N5 event {event}\n")?,
-        RecError::Value(event) => format!(in alloc; "refused: N6 event {event}\n")?,
-        RecError::WriteList(address) => format!(in alloc; "refused: N7 address {address}\n")?,
+        RecError::NotJson => refused(alloc, N1.name)?,
+        RecError::Shape => refused(alloc, N2.name)?,
+        RecError::Version => refused(alloc, N3.name)?,
+        RecError::Limits => refused(alloc, N4.name)?,
+        RecError::Source(event) => refused_at(alloc, &N5, event as usize)?,
+        RecError::Value(event) => refused_at(alloc, &N6, event as usize)?,
+        RecError::WriteList(address) => refused_at(alloc, &N7, address as usize)?,
         RecError::OutOfMemory => return Ok(None),
     };
     Ok(Some(line))
