@@ -1,8 +1,8 @@
 //! Command lines of cases, performed.
 
 use commands::perform::perform;
+use commands::{asks_for_words, error_text};
 use devices::{Device, Disk};
-use inputs::{asks_for_words, error_text};
 use report::Outcome;
 use std::alloc::{AllocError, Global};
 use std::io;

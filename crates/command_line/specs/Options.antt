@@ -37,7 +37,8 @@ use Rattle.command_line.specs.declared.values.Values.{Values}
 use Rattle.command_line.specs.Commands.{HaveNoMistake, command_of, program_app}
 use Rattle.command_line.specs.Entries.{HasEntries, machine_fault_of, misfit_of, names_standard_input_twice, cycles_of}
 use Rattle.command_line.specs.Entries.{joined_from, names_given, number_of, number_or, number_written, show_of}
-use Rattle.command_line.specs.Meanings.{asks_of_refusals, meaning_asked}
+use Rattle.refusals.specs.Table.{texts_of}
+use Rattle.command_line.specs.Meanings.{asks_of_refusals, refusal_asked}
 use Rattle.clap.specs.declared.parser.matches.ArgMatches.{ArgMatches}
 use Rattle.command_line.specs.Refusals.{refusal_of, shape_asked}
 use Rattle.command_line.specs.Shards.{part_asked}
@@ -274,7 +275,7 @@ IsMatchesStop fault (Some command) = IsEntryStop fault command.1
 -- entries give none
 abbrev pub IsOptionStop : OptionStop → List Text → Type 0
 IsOptionStop RefusalMeanings words = asks_of_refusals words ≡ true
-IsOptionStop (RefusalMeaning line) words = meaning_asked words ≡ Some line.now
+IsOptionStop (RefusalMeaning refusal) words = refusal_asked words ≡ Some (texts_of refusal)
 IsOptionStop StandardInputTwice words = HaveNoMistake words × IsMatchesStop StandardInputTwice (command_of words)
 IsOptionStop (Misfit misfit) words = HaveNoMistake words × IsMatchesStop (Misfit misfit) (command_of words)
 IsOptionStop (Clap error) words = (takes program_app words ≡ false)

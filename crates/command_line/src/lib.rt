@@ -3,7 +3,6 @@
 
 mod build;
 mod entries;
-mod meanings;
 mod named;
 mod options;
 mod pages;
@@ -12,7 +11,6 @@ mod table;
 mod values;
 pub mod words;
 
-pub use meanings::{REFUSAL_MEANINGS, meaning_named};
 pub use options::{
     CompleteOptions, DrawOptions, ExplainOptions, FileOptions, JudgeOptions, LiveOptions,
     MakeOptions, MergeOptions, Misfit, OptionRefusal, OptionStop, Options, OutcomesOptions,

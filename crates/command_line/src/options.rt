@@ -4,6 +4,7 @@ use clap::error::ErrorKind;
 use common::{MAX_CAPACITY, MAX_STEPS, MAX_TRIALS, MAX_WORKERS};
 use program::{Campaign, Fault, ShapeError};
 use recording::RecordingSize;
+use refusals::Refusal;
 use std::alloc::AllocError;
 use std::fmt;
 use std::fmt::{Display, Formatter, Write};
@@ -490,8 +491,8 @@ pub enum OptionStop {
     Clap(clap::Error),
     /// The words ask what refusals mean.
     RefusalMeanings,
-    /// The words ask what one refusal means, which this line says.
-    RefusalMeaning(&'static [u8]),
+    /// The words ask what this refusal means.
+    RefusalMeaning(Refusal<&'static str>),
     /// `clap` takes the words, and `-` stands for two inputs.
     StandardInputTwice,
     /// `clap` takes the words, and these options don't go together.

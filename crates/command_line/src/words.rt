@@ -4,16 +4,18 @@ ghost use Rattle.std.specs.Prelude.{string_bytes, true};
 ghost use Rattle.clap.specs.Words.{app_of, found_of, rows_of, subcommand_rows_of};
 ghost use Rattle.command_line.specs.Commands.{HaveNoMistake, command_of, program_app};
 ghost use Rattle.command_line.specs.Entries.{HasEntries};
-ghost use Rattle.command_line.specs.Meanings.{IsLineOf, asks_of_refusals, meaning_asked, name_asked};
+ghost use Rattle.command_line.specs.Meanings.{IsRefusalOf, asks_of_refusals, name_asked, refusal_asked};
+ghost use Rattle.refusals.specs.declared.refusal.Refusal.{Refusal};
+ghost use Rattle.refusals.specs.Table.{texts_of};
 ghost use Rattle.command_line.specs.Options.{AreOptions, AreTaken, IsMatchesStop, IsOptionStop};
 
 use crate::build::command;
 use crate::entries::{misfit_of, names_standard_input_twice};
-use crate::meanings::meaning_named;
 use crate::named::named_options;
 use crate::options::{OptionStop, Options};
 use crate::values::read_values;
 use clap::{ArgMatches, Command};
+use refusals::{Refusal, refusal_named};
 use std::alloc::Global;
 
 /// What `clap` reads of the words.
@@ -86,12 +88,12 @@ fn name_asked(words: &[String]) -> Option<&str>
     }
 }
 
-/// The line that says what the refusal means of which the words ask.
-fn meaning_asked(words: &[String]) -> Option<&'static [u8]>
-    ensures { option_map (λ line. line.now) result ≡ meaning_asked (map string_bytes words.now) }
+/// The refusal of which the words ask what it means.
+fn refusal_asked(words: &[String]) -> Option<Refusal<&'static str>>
+    ensures { option_map texts_of result ≡ refusal_asked (map string_bytes words.now) }
 {
     match name_asked(words) {
-        Some(name) => meaning_named(name),
+        Some(name) => refusal_named(name),
         None => None,
     }
 }
@@ -102,14 +104,14 @@ pub fn options(alloc: Global, words: &[String]) -> Result<Options, OptionStop>
     ensures err { IfErr result (λ stop. IsOptionStop stop (map string_bytes words.now)) }
     ensures taken { IfOk result (λ _. HaveNoMistake (map string_bytes words.now)) }
     ensures meanings { asks_of_refusals (map string_bytes words.now) ≡ true → result ≡ Err OptionStop.RefusalMeanings }
-    ensures meaning { (line : List ℕ) → asks_of_refusals (map string_bytes words.now) ≡ false
-        → meaning_asked (map string_bytes words.now) ≡ Some line → IsLineOf line result }
+    ensures meaning { (refusal : Refusal (List ℕ)) → asks_of_refusals (map string_bytes words.now) ≡ false
+        → refusal_asked (map string_bytes words.now) ≡ Some refusal → IsRefusalOf refusal result }
 {
     if asks_of_refusals(words) {
         return Err(OptionStop::RefusalMeanings);
     }
-    if let Some(line) = meaning_asked(words) {
-        return Err(OptionStop::RefusalMeaning(line));
+    if let Some(refusal) = refusal_asked(words) {
+        return Err(OptionStop::RefusalMeaning(refusal));
     }
     let matches = read(command(alloc)?, words)?;
     command_options(alloc, &matches)

@@ -10,3 +10,4 @@ pub mod Outcomes
 pub mod Complete
 pub mod Make
 pub mod Command
+pub mod OptionRefusals

@@ -22,10 +22,11 @@ use Rattle.command_line.specs.declared.options.OptionStop.TheVariants.{Clap}
 use Rattle.command_line.specs.declared.options.OptionStop.TheVariants as refused
 use Rattle.command_line.specs.declared.options.SurveyOptions.{SurveyOptions}
 use Rattle.command_line.specs.Commands.{command_of}
-use Rattle.command_line.specs.declared.meanings.TheConstants.{REFUSAL_MEANINGS}
+use Rattle.refusals.specs.Meanings.{meaning, meanings}
+use Rattle.refusals.specs.Table.{texts_of}
 use Rattle.command_line.specs.Options.{AreOptions, IsOptionStop}
 use Rattle.inputs.specs.Inputs.{AreRead, AreStopped, AreTakenBack, Inputs, IsStoppedBy}
-use Rattle.inputs.specs.Refusal.{option_line}
+use Rattle.commands.specs.OptionRefusals.{option_line}
 use Rattle.report.specs.Answer.{IsBegun, IsPut}
 use Rattle.commands.specs.Command.{IsAnswerTo, IsCommandStop, input_names}
 use Rattle.commands.specs.Survey.{IsEachWritten, TellsEach}
@@ -40,9 +41,9 @@ IsMistake error = (kind_of error ≢ DisplayHelp) × (kind_of error ≢ DisplayV
 abbrev pub IsWithoutOptions : OptionStop → Result Answer CommandStop → Type 0
 IsWithoutOptions (Clap error) (Ok answer) = (answer.outcome ≡ Done) × (IsMistake error → ⊥)
 IsWithoutOptions refused.RefusalMeanings (Ok answer) = (answer.outcome ≡ Done)
-    × (answer.text.items ≡ REFUSAL_MEANINGS.now)
-IsWithoutOptions (refused.RefusalMeaning line) (Ok answer) = (answer.outcome ≡ Done)
-    × (answer.text.items ≡ line.now ++ 10 ∷ [])
+    × (answer.text.items ≡ meanings)
+IsWithoutOptions (refused.RefusalMeaning refusal) (Ok answer) = (answer.outcome ≡ Done)
+    × (answer.text.items ≡ meaning (texts_of refusal))
 IsWithoutOptions (refused.Refused refusal) (Err (Refused printed)) = string_bytes printed.line ≡ option_line refusal
 IsWithoutOptions (Clap error) (Err (Failed (CommandLine said))) = (said ≡ error) × IsMistake error
 IsWithoutOptions refused.StandardInputTwice (Err (Failed error.StandardInputTwice)) = ⊤

@@ -6,6 +6,7 @@ use answers::{cycles_answer, made_answer};
 use command_line::MakeOptions;
 use cycles::{CycleRefusal, make};
 use inputs::{CommandStop, PrintedRefusal};
+use refusals::{E1, E2, E3, refused_at};
 use report::Answer;
 use std::alloc::{AllocError, Global};
 
@@ -14,9 +15,9 @@ fn cycle_refusal(alloc: Global, refusal: CycleRefusal) -> Result<PrintedRefusal,
     ensures { IfOk result (λ printed. string_bytes printed.line ≡ cycle_line refusal) }
 {
     let line = match refusal {
-        CycleRefusal::Word(number) => format!(in alloc; "refused: E1 word {number}\n")?,
-        CycleRefusal::Open(number) => format!(in alloc; "refused: E2 word {number}\n")?,
-        CycleRefusal::Large(number) => format!(in alloc; "refused: E3 word {number}\n")?,
+        CycleRefusal::Word(number) => refused_at(alloc, &E1, number)?,
+        CycleRefusal::Open(number) => refused_at(alloc, &E2, number)?,
+        CycleRefusal::Large(number) => refused_at(alloc, &E3, number)?,
     };
     Ok(PrintedRefusal { line, quote: None })
 }

@@ -17,6 +17,7 @@ use devices::Host;
 use headers::put_header;
 use inputs::{CommandError, CommandStop, PrintedRefusal, quoted, text_at};
 use ledger::{Gaps, Joined, Kind, Ledger, MergeError, MergeRefusal, Seam, join, kind_of, merge};
+use refusals::{M1, M2, M3, M4, M5, M6, M7, M8};
 use report::Answer;
 use std::alloc::{AllocError, Global};
 use texts::{put_text, put_text_and_number};
@@ -55,17 +56,17 @@ fn merged_answer(alloc: Global, kind: Kind, ledger: &Ledger) -> Result<Answer, O
     }
 }
 
-/// What is printed for the refusal of a text.
+/// The name of the refusal of a text.
 fn merge_refusal_name(refusal: MergeRefusal) -> &'static str
     ensures { result.now ≡ merge_refusal_name refusal }
 {
     match refusal {
-        MergeRefusal::NoLine => "M1",
-        MergeRefusal::NoCodes => "M2",
-        MergeRefusal::OtherKind => "M3",
-        MergeRefusal::OtherCampaign => "M4",
-        MergeRefusal::TooMany => "M7",
-        MergeRefusal::NoHeader => "M8",
+        MergeRefusal::NoLine => M1.name,
+        MergeRefusal::NoCodes => M2.name,
+        MergeRefusal::OtherKind => M3.name,
+        MergeRefusal::OtherCampaign => M4.name,
+        MergeRefusal::TooMany => M7.name,
+        MergeRefusal::NoHeader => M8.name,
     }
 }
 
@@ -270,7 +271,7 @@ fn join_refusal(alloc: Global, error: MergeError, names: &[String]) -> Result<St
             name_at(names, 0),
         ),
         MergeError::Gap(seam) => {
-            let head = seam_head(alloc, "M5", seam)?;
+            let head = seam_head(alloc, M5.name, seam)?;
             let printed = gap_line(
                 alloc,
                 head.as_str(),
@@ -280,7 +281,7 @@ fn join_refusal(alloc: Global, error: MergeError, names: &[String]) -> Result<St
             Ok(printed)
         }
         MergeError::Overlap(seam) => {
-            let head = seam_head(alloc, "M6", seam)?;
+            let head = seam_head(alloc, M6.name, seam)?;
             let printed = overlap_line(
                 alloc,
                 head.as_str(),

@@ -14,6 +14,7 @@ use inputs::{CommandStop, PrintedRefusal, line_refusal, program_at, text_at};
 use outcome_texts::{SeenLine, condition_of, log_says};
 use outcomes::Observation;
 use program::Program;
+use refusals::{O1, O2, refused_at};
 use report::Answer;
 use std::alloc::{AllocError, Global};
 
@@ -31,7 +32,12 @@ fn log_at<H: Host>(
     let text = text_at(alloc, host, name)?;
     match log_says(alloc, program, text.as_slice())? {
         Ok(lines) => Ok(lines),
-        Err(line) => Err(CommandStop::Refused(line_refusal(alloc, "O1", line, text.as_slice())?)),
+        Err(line) => Err(CommandStop::Refused(line_refusal(
+            alloc,
+            O1.name,
+            line,
+            text.as_slice(),
+        )?)),
     }
 }
 
@@ -39,7 +45,7 @@ fn log_at<H: Host>(
 fn item_refusal(alloc: Global, item: usize) -> Result<PrintedRefusal, AllocError>
     ensures { IfOk result (λ refusal. string_bytes refusal.line ≡ item_line item) }
 {
-    let line = format!(in alloc; "refused: O2 item {item}\n")?;
+    let line = refused_at(alloc, &O2, item)?;
     Ok(PrintedRefusal { line, quote: None })
 }
 

@@ -10,6 +10,8 @@ ghost use Rattle.command_line.specs.Commands.{command_of};
 ghost use Rattle.commands.specs.Perform.{IsErrorFor, IsErrorOf, IsOutputOf, IsWithoutOptions, IsWrittenFor};
 ghost use Rattle.commands.specs.Perform.{WritesAtOnce, WritesEarly, Tallies};
 ghost use Rattle.commands.specs.Survey.{TellsEach};
+ghost use Rattle.refusals.specs.Meanings.{meaning, meanings};
+ghost use Rattle.refusals.specs.Table.{texts_of};
 
 use crate::complete_command::complete_command;
 use crate::judge_command::judge_command;
@@ -19,6 +21,7 @@ use crate::make_command::make_command;
 use crate::merge_command::merge_command;
 use crate::outcomes_command::outcomes_command;
 use crate::output::write_output;
+use crate::refused_options::option_refusal;
 use crate::render_command::render_command;
 use crate::replay_command::replay_command;
 use crate::run_command::run_command;
@@ -27,26 +30,34 @@ use crate::trials_command::trials_command;
 use crate::verify_command::verify_command;
 use answers::Rendering;
 use command_line::words::options;
-use command_line::{OptionStop, Options, REFUSAL_MEANINGS, SurveyOptions};
+use command_line::{OptionStop, Options, SurveyOptions};
+use common::OutOfMemory;
 use devices::{Host, Sink};
-use inputs::{CommandError, CommandStop, PrintedRefusal, option_refusal};
+use inputs::{CommandError, CommandStop, PrintedRefusal};
+use refusals::{Refusal, meaning, meanings};
 use report::{Answer, Outcome};
 use std::alloc::Global;
 use std::sync::Wait;
 use std::thread::Threads;
 
-/// The line that says what a refusal means.
-fn meaning_answer(alloc: Global, line: &[u8]) -> Result<Answer, CommandStop>
-    ensures ok { IfOk result (λ answer. (answer.outcome ≡ Outcome.Done) × (answer.text.items ≡ line.now ++ 10 ∷ [])) }
-    ensures err { IfErr result (λ stop. stop ≡ CommandStop.Failed CommandError.OutOfMemory) }
+/// The answer with what refusals mean. Fails only if out of memory.
+fn meanings_answer(alloc: Global) -> Result<Answer, OutOfMemory>
+    ensures { IfOk result (λ answer. (answer.outcome ≡ Outcome.Done) × (answer.text.items ≡ meanings)) }
 {
-    let mut text = Vec::from_slice(alloc, line)?;
-    let Ok(()) = text.push(b'\n') else {
-        return Err(CommandStop::Failed(CommandError::OutOfMemory));
-    };
     Ok(Answer {
         outcome: Outcome::Done,
-        text,
+        text: meanings(alloc)?,
+    })
+}
+
+/// The answer with what a refusal means. Fails only if out of memory.
+fn meaning_answer(alloc: Global, refusal: &Refusal<&str>) -> Result<Answer, OutOfMemory>
+    ensures { IfOk result (λ answer. (answer.outcome ≡ Outcome.Done)
+        × (answer.text.items ≡ meaning (texts_of refusal.now))) }
+{
+    Ok(Answer {
+        outcome: Outcome::Done,
+        text: meaning(alloc, refusal)?,
     })
 }
 
@@ -65,8 +76,8 @@ fn without_options(alloc: Global, stop: OptionStop) -> Result<Answer, CommandSto
                 text: text.into_bytes(),
             })
         }
-        OptionStop::RefusalMeanings => Ok(Answer::of(alloc, Outcome::Done, REFUSAL_MEANINGS)?),
-        OptionStop::RefusalMeaning(line) => meaning_answer(alloc, line),
+        OptionStop::RefusalMeanings => Ok(meanings_answer(alloc)?),
+        OptionStop::RefusalMeaning(refusal) => Ok(meaning_answer(alloc, &refusal)?),
         OptionStop::StandardInputTwice => Err(CommandStop::Failed(
             CommandError::StandardInputTwice,
         )),

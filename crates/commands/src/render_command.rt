@@ -16,6 +16,7 @@ use inputs::{CommandStop, labels_at, program_at, recording_at};
 use program::Program;
 use program_events::is_program_of;
 use recording::{Recording, RecordingSize};
+use refusals::N9;
 use report::Answer;
 use std::alloc::Global;
 
@@ -40,7 +41,7 @@ fn program_given<H: Host>(
     if is_program_of(&program, recording) {
         Ok(Some(program))
     } else {
-        Err(CommandStop::of_line(alloc, "refused: N9\n"))
+        Err(CommandStop::of_name(alloc, N9.name))
     }
 }
 

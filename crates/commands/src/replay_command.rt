@@ -17,6 +17,7 @@ use litmus::{has_one_text, print};
 use machine::steps_text;
 use program_events::is_numbered;
 use recording::{Recording, RecordingSize};
+use refusals::N8;
 use replay::{most_stores, replay_steps};
 use report::{Answer, Outcome, verdict_answer};
 use std::alloc::Global;
@@ -99,6 +100,6 @@ pub fn replay_command<H: Host>(
         let verdict = judge_alone(alloc, &recording)?;
         Ok(replay_of(alloc, &recording, &verdict)?)
     } else {
-        Err(CommandStop::of_line(alloc, "refused: N8\n"))
+        Err(CommandStop::of_name(alloc, N8.name))
     }
 }

@@ -15,6 +15,7 @@ use common::OutOfMemory;
 use devices::{Host, MemorySink, Sink};
 use headers::{Counted, Header};
 use inputs::{CommandError, CommandStop, opened};
+use refusals::K11;
 use report::{Answer, Outcome, long_answer};
 use std::alloc::Global;
 use std::sync::Wait;
@@ -180,7 +181,7 @@ pub fn survey_command<R: Threads + Wait + Sync, H: Host>(
             host.take_back(lines.into_source());
             match line {
                 Ok(Some(line)) => Ok(shown(alloc, options.long, options.reduce, line.as_slice())?),
-                Ok(None) => Err(CommandStop::of_line(alloc, "refused: K11\n")),
+                Ok(None) => Err(CommandStop::of_name(alloc, K11.name)),
                 Err(SurveyError::ReadFailed) => Err(CommandStop::Failed(CommandError::ReadFailed)),
                 Err(SurveyError::WriteFailed) => unreachable!(),
                 Err(SurveyError::OutOfMemory) => {

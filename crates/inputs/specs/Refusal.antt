@@ -1,11 +1,8 @@
 -- The lines of refused texts.
-use Rattle.std.specs.Prelude.{◌≡◌, ◌++◌, ◌∷◌, [], ℕ, List, Result, Ok, Err, codes, string_bytes}
+use Rattle.std.specs.Prelude.{◌≡◌, ℕ, List, Result, Ok, Err, codes, string_bytes}
 use Rattle.machine.specs.declared.script_refusal.StepRefusal.{StepRefusal}
 use Rattle.machine.specs.declared.script_refusal.StepRefusal.TheVariants.{S1, S2, S3, S4}
-use Rattle.program.specs.declared.shape_error.ShapeError.TheVariants.{K1, K2, K3, K4, K5, K6, K7}
-use Rattle.command_line.specs.declared.options.OptionRefusal.{OptionRefusal}
-use Rattle.command_line.specs.declared.options.OptionRefusal.TheVariants as refused
-use Rattle.litmus.specs.Refusals.{refusal_line}
+use Rattle.refusals.specs.Lines.{refusal_line}
 use Rattle.inputs.specs.declared.command_stop.CommandStop.{CommandStop}
 use Rattle.inputs.specs.declared.command_stop.CommandStop.TheVariants.{Refused, Failed}
 use Rattle.inputs.specs.declared.command_error.CommandError.{CommandError}
@@ -24,28 +21,6 @@ IsReadingStop name (Ok x) (Refused refusal) = ⊥
 IsReadingStop name (Err refused_at) (Refused refusal) = string_bytes refusal.line
     ≡ refusal_line (name refused_at.0) refused_at.1
 IsReadingStop name reading (Failed error) = error ≡ OutOfMemory
-
--- the name of the refusal of options
-abbrev pub option_refusal_name : OptionRefusal → List ℕ
-option_refusal_name (refused.Shape K1) = codes "K1"
-option_refusal_name (refused.Shape K2) = codes "K2"
-option_refusal_name (refused.Shape K3) = codes "K3"
-option_refusal_name (refused.Shape K4) = codes "K4"
-option_refusal_name (refused.Shape K5) = codes "K5"
-option_refusal_name (refused.Shape K6) = codes "K6"
-option_refusal_name (refused.Shape K7) = codes "K7"
-option_refusal_name refused.Workers = codes "K8"
-option_refusal_name refused.Fault = codes "K9"
-option_refusal_name refused.Show = codes "K10"
-option_refusal_name refused.States = codes "K12"
-option_refusal_name refused.Runs = codes "K13"
-option_refusal_name refused.Cycles = codes "K14"
-option_refusal_name refused.Shard = codes "K15"
-option_refusal_name refused.Lines = codes "K16"
-
--- the line that is printed of refused options
-abbrev pub option_line : OptionRefusal → List ℕ
-option_line refusal = codes "refused: " ++ option_refusal_name refusal ++ 10 ∷ []
 
 -- the line is printed, or memory ran out
 abbrev pub IsLineStop : List ℕ → CommandStop → Type 0

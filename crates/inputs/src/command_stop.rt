@@ -1,8 +1,10 @@
 //! Why a command stops before its answer.
+ghost use Rattle.refusals.specs.Lines.{refused};
 ghost use Rattle.inputs.specs.Refusal.{IsLineStop};
 
 use crate::command_error::CommandError;
 use common::OutOfMemory;
+use refusals::refused;
 use std::alloc::{AllocError, Global};
 
 /// What is printed of a text, a number or a name that is refused.
@@ -24,11 +26,11 @@ pub enum CommandStop {
 }
 
 impl CommandStop {
-    /// The refusal that prints this line, or that memory ran out.
-    pub fn of_line(alloc: Global, line: &str) -> CommandStop
-        ensures { IsLineStop line.now result }
+    /// The refusal of this name, whose line has no number, or that memory ran out.
+    pub fn of_name(alloc: Global, name: &str) -> CommandStop
+        ensures { IsLineStop (refused name.now) result }
     {
-        match String::from_str(alloc, line) {
+        match refused(alloc, name) {
             Ok(line) => CommandStop::Refused(PrintedRefusal { line, quote: None }),
             Err(_) => CommandStop::Failed(CommandError::OutOfMemory),
         }

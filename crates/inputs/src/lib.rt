@@ -4,18 +4,14 @@
 mod causes;
 mod command_error;
 mod command_stop;
-mod failure;
-mod meanings;
 mod named;
+mod quoting;
 mod reading;
 mod refusal;
-mod unfinished;
 
 pub use command_error::CommandError;
 pub use command_stop::{CommandStop, PrintedRefusal};
-pub use failure::{asks_for_words, error_text};
-pub use meanings::{explained, quoted};
 pub use named::{labels_at, program_at, recording_at, values_at};
+pub use quoting::quoted;
 pub use reading::{opened, text_at};
-pub use refusal::{line_refusal, option_refusal, step_refusal_name};
-pub use unfinished::advice;
+pub use refusal::{line_refusal, step_refusal_name};

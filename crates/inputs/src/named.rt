@@ -14,6 +14,7 @@ use litmus::{LitmusError, line_refusal_name, parse};
 use program::Program;
 use recorder::read_recording_of;
 use recording::{Recording, RecordingSize};
+use refusals::{A1, A2};
 use std::alloc::Global;
 use values::Values;
 use values_text::read_values;
@@ -80,12 +81,12 @@ pub fn labels_at<H: Host>(
             if labels.len() == recording.len() {
                 Ok(labels)
             } else {
-                Err(CommandStop::of_line(alloc, "refused: A2\n"))
+                Err(CommandStop::of_name(alloc, A2.name))
             }
         }
         Err(LabelError::TooLong(line)) => Err(CommandStop::Refused(line_refusal(
             alloc,
-            "A1",
+            A1.name,
             line,
             text.as_slice(),
         )?)),

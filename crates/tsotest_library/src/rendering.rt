@@ -11,6 +11,7 @@ use litmus::{LitmusError, line_refusal_name, parse, refusal_line};
 use program::Program;
 use program_events::is_program_of;
 use recording::{Recording, RecordingSize};
+use refusals::{N9, refused};
 use report::{Answer, Outcome, read_or_refuse, read_or_refuse_of};
 use std::alloc::Global;
 
@@ -28,8 +29,11 @@ fn own_program(
             if is_program_of(&program, recording) {
                 return Ok(Ok(program));
             }
-            let refused = Answer::of(alloc, Outcome::Refused, "refused: N9\n")?;
-            Ok(Err(refused))
+            let line = refused(alloc, N9.name)?;
+            Ok(Err(Answer {
+                outcome: Outcome::Refused,
+                text: line.into_bytes(),
+            }))
         }
         Err(LitmusError::AtLine(refusal, line)) => {
             let text = refusal_line(alloc, line_refusal_name(refusal), line)?;

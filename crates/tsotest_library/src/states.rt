@@ -5,6 +5,7 @@ ghost use Rattle.tsotest_library.specs.Refused.{AreStatesRefused};
 
 use common::OutOfMemory;
 use program::is_outside;
+use refusals::{K12, refused};
 use report::{Answer, Outcome};
 use std::alloc::Global;
 
@@ -16,8 +17,11 @@ pub(crate) fn states_refusal(alloc: Global, states: usize) -> Result<Option<Answ
     ensures { IfOk result (λ refusal. IfSome refusal (AreStatesRefused states)) }
 {
     if is_outside(MAX_STATES, states) {
-        let refused = Answer::of(alloc, Outcome::Refused, "refused: K12\n")?;
-        return Ok(Some(refused));
+        let line = refused(alloc, K12.name)?;
+        return Ok(Some(Answer {
+            outcome: Outcome::Refused,
+            text: line.into_bytes(),
+        }));
     }
     Ok(None)
 }

@@ -1,7 +1,7 @@
 //! What is said on standard error of a command that failed.
 
-use crate::command_error::CommandError;
 use devices::Disk;
+use inputs::CommandError;
 use std::alloc::{AllocError, Global};
 use std::io::ErrorKind;
 
