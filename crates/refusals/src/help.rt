@@ -79,8 +79,8 @@ fn put_group(out: &mut Vec<u8>, group: &Group) -> Result<(), OutOfMemory>
     Ok(())
 }
 
-/// The line that says what a refusal means: its name, what is wrong, and between parentheses what to know about it. Fails
-/// only if out of memory.
+/// The line that says what a refusal means: its name, what is wrong, and between parentheses what to know about it.
+/// Fails only if out of memory.
 pub fn meaning(alloc: Global, refusal: &Refusal<&str>) -> Result<Vec<u8>, OutOfMemory>
     ensures { IfOk result (λ text. text.items ≡ meaning (texts_of refusal.now)) }
 {
