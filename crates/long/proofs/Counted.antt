@@ -1,93 +1,53 @@
--- Pairs of a recording, with one more.
-use Rattle.std.proofs.Common.{◌≡◌, ◌<◌, ◌≤◌, ◌+◌, inl, inr, ℕ, List, [], get_or, set, length, arith, sym, ap, subst}
-use Rattle.std.proofs.Common.{◌∙◌}
-use Rattle.std.proofs.Common.{get_or-set_same, get_or-set_other, replicate}
-use Rattle.std.proofs.lemmas.Bool.{cases_eq}
+-- How often events wait, before any is placed, as more rows are counted.
+use Rattle.std.proofs.Common.{◌≡◌, ◌<◌, ◌≤◌, ◌+◌, ◌-◌, ◌==◌, inl, inr, ℕ, zero, suc, cond, List, [], ◌∷◌, get_or, take, drop}
+use Rattle.std.proofs.Common.{slice_range, length, replicate, arith, refl, ap, ◌∙◌}
+use Rattle.std.proofs.lemmas.Bool.{cases_eq, cases_lt}
 use Rattle.std.proofs.lemmas.List.{get_or-replicate, get_or_past, length-replicate}
-use Rattle.std.proofs.lemmas.Bool.{cases_lt}
-use Rattle.recording.specs.Execution.{Execution, event_count}
-use Rattle.recording.specs.OrderLaws.{times_nil}
 use Rattle.recording.specs.Order.{times}
-use Rattle.relations.specs.Forced.{Forced}
-use Rattle.order.specs.Open.{IsOpen}
-use Rattle.long.specs.declared.linking.Linked.{Linked}
-use Rattle.long.specs.Chains.{times_kept, HasNoPair, HasPairMore}
-use Rattle.long.specs.Linked.{IsCounted, IsLinked, KeepsPairs}
-use Rattle.long.proofs.Weights.{kept_before, kept_more, kept_still, open_more, open_none}
+use Rattle.recording.specs.OrderLaws.{times_here, times_there, times_nil}
+use Rattle.order.specs.Open.{waits, IsOpen}
+use Rattle.order.proofs.Waits.{waits_zero}
+use Rattle.long.specs.Rows.{Rows, AreRows, times_kept}
+
+-- zeros are 0
+pub zeros : (n e : ℕ) → get_or (replicate {A = ℕ} n 0) e 0 ≡ 0
+zeros zero e = refl
+zeros (suc n) zero = refl
+zeros (suc n) (suc e) = zeros n e
 
 -- ones are at most 1
-ones : (n e : ℕ) → get_or (replicate {A = ℕ} n 1) e 0 ≤ 1
+pub ones : (n e : ℕ) → get_or (replicate {A = ℕ} n 1) e 0 ≤ 1
 ones n e = elim (cases_lt e n) [
   | inl low ↦ omega (arith, get_or-replicate {A = ℕ} n e 1 0 low)
   | inr past ↦ omega (arith, get_or_past (replicate {A = ℕ} n 1) e 0 (omega (arith, past, length-replicate {A = ℕ} n 1)))
 ]
 
--- no pair is counted at first
-pub counted_none : (l : Linked) (n : ℕ) → HasNoPair n l.pairs → l.counts.items ≡ replicate n 1 → IsCounted l
-counted_none l n none is = record {
-  waiting = subst (λ (counts : List ℕ). IsOpen (times_kept l.pairs) (length l.pairs.heads) [] counts) (sym is)
-      (open_none l.pairs n none);
-  low = λ e. omega (arith, ap (λ (counts : List ℕ). get_or counts e 0) is, ones n e);
-  within = λ d e some. absurd (omega (
-    arith,
-    some,
-    ap (λ (s : List ℕ). times s e) (none.none d),
-    times_nil e,
-  ));
+-- one event more
+wait_more : (w : ℕ → ℕ → ℕ) (n e : ℕ) → waits w [] (suc n) e ≡ waits w [] n e + w n e
+unfolding waits
+wait_more w n e = ap (λ (k : ℕ). waits w [] n e + cond (k == 0) (w n e) 0) (times_nil n)
+
+pub wait_next : (w : ℕ → ℕ → ℕ) (n e : ℕ) → waits w [] (n + 1) e ≡ waits w [] n e + w n e
+wait_next w n e = let next : n + 1 ≡ suc n = omega arith in ap (λ (k : ℕ). waits w [] k e) next ∙ wait_more w n e
+
+-- a number stands in a part of k numbers no more than k times
+part_few : (k : ℕ) (xs : List ℕ) (f : ℕ) → times (take k xs) f ≤ k
+part_few zero xs f = omega (arith, times_nil f)
+part_few (suc k) [] f = omega (arith, times_nil f)
+part_few (suc k) (x ∷ xs) f = elim (cases_eq x f) [
+  | inl here ↦ omega (arith, times_here (take k xs) x f here, part_few k xs f)
+  | inr there ↦ omega (arith, times_there (take k xs) x f there, part_few k xs f)
+]
+
+-- a pair is kept no more often than its row is long
+pub row_few : (p : Rows) (e f : ℕ) → times_kept p e f ≤ get_or p.starts (e + 1) 0 - get_or p.starts e 0
+row_few p e f = part_few (get_or p.starts (e + 1) 0 - get_or p.starts e 0) (drop (get_or p.starts e 0) p.items) f
+
+-- where all rows are counted, each event waits for what it is the second of
+pub open_all : (w : ℕ → ℕ → ℕ) (n : ℕ) (counts : List ℕ) → length counts ≡ n
+    → ((f : ℕ) → f < n → get_or counts f 0 ≡ waits w [] n f + 1) → IsOpen w n [] counts
+open_all w n counts size waiting = record {
+  size = size;
+  waiting = λ e low fresh. waiting e low;
+  done = λ e low placed. absurd (omega (arith, placed, times_nil e));
 }
-
--- and none is linked
-pub linked_none : (x : Execution) (l : Linked) (n : ℕ) → n ≡ event_count x → HasNoPair n l.pairs
-    → l.counts.items ≡ replicate n 1 → IsLinked x l
-linked_none x l n all none is = record {
-  size = none.size ∙ all;
-  counted = counted_none l n none is;
-  forced = λ d e some. absurd (omega (arith, some, ap (λ (s : List ℕ). times s e) (none.none d), times_nil e));
-}
-
-module _ (old new : Linked) (e f : ℕ) (more : HasPairMore e f old.pairs new.pairs) where
-  -- one pair more is counted
-  pub counted_more : IsCounted old → e < length old.pairs.heads → f < length old.pairs.heads
-      → new.counts.items ≡ set old.counts.items f (get_or old.counts.items f 0 + 1) → IsCounted new
-  counted_more was first second is = record {
-    waiting = subst (λ (counts : List ℕ). IsOpen (times_kept new.pairs) (length new.pairs.heads) [] counts) (sym is)
-        (open_more old.pairs new.pairs e f more old.counts.items first second was.waiting);
-    low = λ g. elim (cases_eq g f) [
-      | inl here ↦ omega (
-        arith,
-        ap (λ (counts : List ℕ). get_or counts g 0) is,
-        ap (λ (k : ℕ). get_or (set old.counts.items f (get_or old.counts.items f 0 + 1)) k 0) here,
-        get_or-set_same old.counts.items f (get_or old.counts.items f 0 + 1) 0 (omega (arith, second, was.waiting.size)),
-        was.low f,
-        more.more,
-      )
-      | inr apart ↦ omega (
-        arith,
-        ap (λ (counts : List ℕ). get_or counts g 0) is,
-        get_or-set_other old.counts.items f g (get_or old.counts.items f 0 + 1) 0 apart,
-        was.low g,
-        more.more,
-      )
-    ];
-    within = λ d g some. omega (
-      arith,
-      more.size,
-      kept_before old.pairs new.pairs e f more (λ (_ h : ℕ). h < length old.pairs.heads) was.within second d g some,
-    );
-  }
-
-  -- and linked, where it is forced
-  pub linked_more : (x : Execution) → IsLinked x old → IsCounted new → Forced x e f → IsLinked x new
-  linked_more x was counted forced = record {
-    size = more.size ∙ was.size;
-    counted = counted;
-    forced = kept_before old.pairs new.pairs e f more (Forced x) was.forced forced;
-  }
-
-  -- and all others are kept
-  pub keeps_more : KeepsPairs old new
-  keeps_more = kept_still old.pairs new.pairs e f more
-
-  -- as it is
-  pub kept_here : 0 < times_kept new.pairs e f
-  kept_here = omega (arith, kept_more old.pairs new.pairs e f more)

@@ -4,13 +4,13 @@ pub mod Follow
 pub mod Newer
 pub mod Cuts
 pub mod Closing
-pub mod Chained
-pub mod Weights
 pub mod Keys
-pub mod Counted
 pub mod Back
 pub mod Sorts
-pub mod Rests
 pub mod Befores
 pub mod Placed
 pub mod Ordered
+pub mod Listed
+pub mod Counted
+pub mod Rests
+pub mod Filled

@@ -8,15 +8,15 @@ use Rattle.relations.specs.Consistency.{HasNoOverlook}
 use Rattle.relations.specs.Forced.{Forced}
 use Rattle.relations.specs.ForcedLaws.{forced_within}
 use Rattle.relations.specs.Laws.{EveryOrderRespects, EveryRespectingIsOrder}
-use Rattle.long.specs.Chains.{Chains, times_kept}
+use Rattle.long.specs.Rows.{times_listed}
 use Rattle.long.specs.Positions.{AreInOrder, ArePositions}
 use Rattle.long.specs.Steps.{IsStep}
 use Rattle.long.proofs.Follow.{all_follow}
 
 -- where no read overlooks a store, an order is one of TSO exactly where forced pairs from which all follow are in order
-pub order_is_checked : (x : Execution) (m v : List ℕ) (p : Chains) → IsWellFormed x → HasNoOverlook x
+pub order_is_checked : (x : Execution) (m v : List ℕ) (p : List (ℕ × ℕ)) → IsWellFormed x → HasNoOverlook x
     → Enumerates (λ e. e < event_count x) m → ArePositions m (event_count x) v
-    → ((d e : ℕ) → 0 < times_kept p d e → Forced x d e) → ((d e : ℕ) → IsStep x d e → 0 < times_kept p d e)
+    → ((d e : ℕ) → 0 < times_listed p d e → Forced x d e) → ((d e : ℕ) → IsStep x d e → 0 < times_listed p d e)
     → EveryOrderRespects x → EveryRespectingIsOrder x → AreInOrder p v ↔ IsTsoOrder x m
 order_is_checked x m v p wf none total at forced enough respects exact = (
   λ ordered. exact m wf none (all_follow x wf none m (record {

@@ -1,7 +1,7 @@
 -- Places of events in an order, by number.
 use Rattle.std.specs.Prelude.{◌≡◌, ◌<◌, ℕ, List, length, slice_index}
 use Rattle.recording.specs.Order.{place}
-use Rattle.long.specs.Chains.{Chains, times_kept}
+use Rattle.long.specs.Rows.{times_listed}
 
 -- for each number below n its place in a list
 pub record ArePositions (m : List ℕ) (n : ℕ) (positions : List ℕ) : Type 0 where
@@ -16,10 +16,7 @@ pub record ArePlaced (m : List ℕ) (n k : ℕ) (positions : List ℕ) : Type 0 
   pub only : (e : ℕ) → e < n → slice_index positions e < n
       → (slice_index positions e < k) × (slice_index m (slice_index positions e) ≡ e)
 
--- each event that d is kept before stands after it
-abbrev pub AreInOrderFrom : Chains → List ℕ → ℕ → Type 0
-AreInOrderFrom p positions d = (f : ℕ) → 0 < times_kept p d f → slice_index positions d < slice_index positions f
-
--- so it is for each d
-abbrev pub AreInOrder : Chains → List ℕ → Type 0
-AreInOrder p positions = (d : ℕ) → AreInOrderFrom p positions d
+-- each pair of a list has its first event at an earlier place
+abbrev pub AreInOrder : List (ℕ × ℕ) → List ℕ → Type 0
+AreInOrder pairs positions = (d f : ℕ) → 0 < times_listed pairs d f
+    → slice_index positions d < slice_index positions f

@@ -3,12 +3,11 @@
 ghost use Rattle.std.specs.Prelude.{◌<◌, ◌^◌, ◌↔◌, ℕ, IsTrue, IfOk, MatchOption, length};
 ghost use Rattle.recording.specs.Order.{Enumerates};
 ghost use Rattle.recording.specs.Tso.{IsTsoOrder};
-ghost use Rattle.long.specs.Chains.{times_kept};
-ghost use Rattle.long.specs.Positions.{ArePositions, AreInOrder, AreInOrderFrom};
+ghost use Rattle.long.specs.Rows.{times_listed};
+ghost use Rattle.long.specs.Positions.{ArePositions, AreInOrder};
 
-use crate::linking::{Linked, link_all};
+use crate::linking::link_all;
 use crate::newest::overlook;
-use crate::pairs::Pairs;
 use common::{EventId, OutOfMemory};
 use relations::{Places, forced_is_exact};
 use std::alloc::Global;
@@ -40,33 +39,15 @@ fn positions(
     Ok(Some(positions))
 }
 
-/// Whether the pairs of an event are in order, by the places of their events.
-fn follow(pairs: &Pairs, event: EventId, positions: &[u32]) -> bool
-    requires event { event < length positions.now }
-    requires within { (f : ℕ) → 0 < times_kept pairs.now event f → f < length positions.now }
-    ensures { IsTrue result ↔ AreInOrderFrom pairs.now positions.now event }
-{
-    let place = positions[event as usize];
-    let mut head = pairs.head(event);
-    'chain: while head > 0 {
-        let (second, next) = pairs.link(head);
-        if positions[second as usize] <= place {
-            return false;
-        }
-        head = next;
-    }
-    true
-}
-
 /// Whether pairs are in order, by the places of their events.
-fn all_follow(pairs: &Pairs, positions: &[u32]) -> bool
-    requires few { length positions.now < 2 ^ 32 }
-    requires within { (d f : ℕ) → 0 < times_kept pairs.now d f
+fn all_follow(list: &[(EventId, EventId)], positions: &[u32]) -> bool
+    requires { (d f : ℕ) → 0 < times_listed list.now d f
         → (d < length positions.now) × (f < length positions.now) }
-    ensures { IsTrue result ↔ AreInOrder pairs.now positions.now }
+    ensures { IsTrue result ↔ AreInOrder list.now positions.now }
 {
-    for event in 0..positions.len() {
-        if !follow(pairs, event as EventId, positions) {
+    for place in 0..list.len() {
+        let (first, second) = list[place];
+        if positions[second as usize] <= positions[first as usize] {
             return false;
         }
     }
@@ -90,6 +71,6 @@ pub fn is_tso_order(
     if let Some(_found) = overlook(alloc, places)? {
         return Ok(false);
     }
-    let Linked { pairs, .. } = link_all(alloc, places)?;
-    Ok(all_follow(&pairs, &positions))
+    let linked = link_all(alloc, places)?;
+    Ok(all_follow(&linked.list, &positions))
 }

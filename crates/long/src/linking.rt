@@ -1,11 +1,11 @@
 //! The forced pairs from which all others follow.
 
-ghost use Rattle.std.specs.Prelude.{◌≡◌, ◌≤◌, ◌<◌, ◌*◌, ◌↔◌, ◌⊎◌, ℕ, Some, Bool, cond, IfOk, IsTrue, MatchOption};
+ghost use Rattle.std.specs.Prelude.{◌≡◌, ◌≤◌, ◌<◌, ◌+◌, ◌*◌, ◌↔◌, ◌⊎◌, ℕ, Some, Bool, cond, IfOk, IsTrue, MatchOption};
 ghost use Rattle.std.specs.Prelude.{length};
 ghost use Rattle.recording.specs.Execution.{Execution, event_count, source_of, ProgramOrder};
 ghost use Rattle.relations.specs.Direct.{IsFirstNewer, IsNextWrite};
-ghost use Rattle.relations.specs.Forced.{IsCoreStart};
-ghost use Rattle.long.specs.Chains.{times_kept};
+ghost use Rattle.relations.specs.Forced.{Forced, IsCoreStart};
+ghost use Rattle.long.specs.Rows.{times_kept, times_listed};
 ghost use Rattle.long.specs.Linked.{IsLinked};
 ghost use Rattle.long.specs.Steps.{IsStep};
 
@@ -14,11 +14,10 @@ use common::{EventId, OutOfMemory};
 use relations::Places;
 use std::alloc::Global;
 
-/// Pairs, and for each event one more than how often it is the second of one.
+/// Pairs of events, in the order in which they were put.
 #[derive(Drop)]
 pub(crate) struct Linked {
-    pub(crate) pairs: Pairs,
-    pub(crate) counts: Vec<u32>,
+    pub(crate) list: Vec<(EventId, EventId)>,
 }
 
 /// The source of an event; the event itself where it has none.
@@ -98,37 +97,20 @@ fn last_of(is_passed: bool, last: EventId, event: EventId) -> EventId
 }
 
 impl Linked {
-    ghost use Rattle.std.specs.Prelude.{◌≡◌, ◌≤◌, ◌<◌, ◌+◌, ◌^◌, ℕ, true, false, IfOk, IsTrue, OnOk, length};
+    ghost use Rattle.std.specs.Prelude.{◌≡◌, ◌≤◌, ◌<◌, ◌+◌, ℕ, [], true, false, IfOk, IsTrue, OnOk, length};
     ghost use Rattle.recording.specs.Execution.{event_count};
     ghost use Rattle.relations.specs.Direct.{IsFirstNewer, IsNextWrite};
     ghost use Rattle.relations.specs.Forced.{Forced, IsCoreStart};
-    ghost use Rattle.long.specs.Chains.{times_kept, HasPairMore};
-    ghost use Rattle.long.specs.Linked.{IsCounted, IsLinked, IsRightBefore, KeepsPairs};
+    ghost use Rattle.long.specs.Rows.{times_listed};
+    ghost use Rattle.long.specs.Linked.{IsLinked, IsRightBefore, KeepsPairs};
     ghost use Rattle.long.specs.Steps.{IsLast};
 
-    /// No pair of the events of a recording.
-    fn none(alloc: Global, places: &Places<'_>) -> Result<Linked, OutOfMemory>
-        ensures linked { IfOk result (IsLinked places.now) }
-        ensures few { IfOk result (λ l. length l.pairs.links ≡ 0) }
+    /// No pair, with room for four of each of these events.
+    fn none(alloc: Global, count: usize) -> Result<Linked, OutOfMemory>
+        ensures { IfOk result (λ l. l.list.items ≡ []) }
     {
-        let pairs = Pairs::none(alloc, places.len())?;
-        let counts = vec![in alloc; 1; places.len()]?;
-        Ok(Linked { pairs, counts })
-    }
-
-    /// Puts a pair, and counts it.
-    fn put(&mut self, first: EventId, second: EventId) -> Result<(), OutOfMemory>
-        requires first { first < length self.old.pairs.heads }
-        requires second { second < length self.old.pairs.heads }
-        requires few { length self.old.pairs.links + 2 < 2 ^ 32 }
-        requires counted { IsCounted self.old }
-        ensures counted { OnOk result (IsCounted self.new) }
-        ensures more { OnOk result (HasPairMore first second self.old.pairs self.new.pairs) }
-    {
-        let count = self.counts[second as usize];
-        self.pairs.put(first, second)?;
-        self.counts[second as usize] = count + 1;
-        Ok(())
+        let list = Vec::with_capacity(alloc, count.saturating_mul(4))?;
+        Ok(Linked { list })
     }
 
     /// Puts a pair, if it is forced: it is where that is known, else it is asked, which looks at both events.
@@ -140,23 +122,22 @@ impl Linked {
         known: bool,
     ) -> Result<(), OutOfMemory>
         requires known { IsTrue known → Forced places.now first second }
-        requires few { length self.old.pairs.links + 2 < 2 ^ 32 }
         requires linked { IsLinked places.now self.old }
-        ensures few { OnOk result (length self.new.pairs.links ≤ length self.old.pairs.links + 1) }
+        ensures few { OnOk result (length self.new.list.items ≤ length self.old.list.items + 1) }
         ensures linked { OnOk result (IsLinked places.now self.new) }
         ensures kept { OnOk result (KeepsPairs self.old self.new) }
-        ensures here { OnOk result (Forced places.now first second → 0 < times_kept self.new.pairs first second) }
+        ensures here { OnOk result (Forced places.now first second → 0 < times_listed self.new.list.items first second) }
     {
         places.sound();
         if known || places.forces(first, second) {
-            self.put(first, second)?;
+            self.list.push((first, second))?;
         }
         Ok(())
     }
 
-    /// Puts the forced pairs of which an event is the second, but for those of writes that it is next to and of reads that
-    /// it is newer for. Given are the first event of its core, and the last before it that is no plain load, and no plain
-    /// store, where there are such.
+    /// Puts the forced pairs of which an event is the second, but for those of writes that it is next to and of reads
+    /// that it is newer for. Given are the first event of its core, and the last before it that is no plain load, and no
+    /// plain store, where there are such.
     fn put_before(
         &mut self,
         places: &Places<'_>,
@@ -169,13 +150,12 @@ impl Linked {
         requires start { IsCoreStart places.now start event }
         requires nonload { (d : ℕ) → IsLast places.now true d event → nonload ≡ d }
         requires nonstore { (d : ℕ) → IsLast places.now false d event → nonstore ≡ d }
-        requires few { length self.old.pairs.links + 4 < 2 ^ 32 }
         requires linked { IsLinked places.now self.old }
-        ensures few { OnOk result (length self.new.pairs.links ≤ length self.old.pairs.links + 3) }
+        ensures few { OnOk result (length self.new.list.items ≤ length self.old.list.items + 3) }
         ensures linked { OnOk result (IsLinked places.now self.new) }
         ensures kept { OnOk result (KeepsPairs self.old self.new) }
         ensures before { OnOk result ((d : ℕ) → IsRightBefore places.now d event → Forced places.now d event
-            → 0 < times_kept self.new.pairs d event) }
+            → 0 < times_listed self.new.list.items d event) }
     {
         places.sound();
         self.put_forced(places, nonload, event, false)?;
@@ -189,13 +169,12 @@ impl Linked {
     /// Puts the pair of an event and the write after it in its write list, if there is one.
     fn put_next(&mut self, places: &Places<'_>, event: EventId) -> Result<(), OutOfMemory>
         requires event { event < event_count places.now }
-        requires few { length self.old.pairs.links + 2 < 2 ^ 32 }
         requires linked { IsLinked places.now self.old }
-        ensures few { OnOk result (length self.new.pairs.links ≤ length self.old.pairs.links + 1) }
+        ensures few { OnOk result (length self.new.list.items ≤ length self.old.list.items + 1) }
         ensures linked { OnOk result (IsLinked places.now self.new) }
         ensures kept { OnOk result (KeepsPairs self.old self.new) }
         ensures next { OnOk result ((w : ℕ) → IsNextWrite places.now event w
-            → 0 < times_kept self.new.pairs event w) }
+            → 0 < times_listed self.new.list.items event w) }
     {
         places.sound();
         match write_after(places, event) {
@@ -214,13 +193,12 @@ impl Linked {
     ) -> Result<(), OutOfMemory>
         requires event { event < event_count places.now }
         requires start { IsCoreStart places.now start event }
-        requires few { length self.old.pairs.links + 2 < 2 ^ 32 }
         requires linked { IsLinked places.now self.old }
-        ensures few { OnOk result (length self.new.pairs.links ≤ length self.old.pairs.links + 1) }
+        ensures few { OnOk result (length self.new.list.items ≤ length self.old.list.items + 1) }
         ensures linked { OnOk result (IsLinked places.now self.new) }
         ensures kept { OnOk result (KeepsPairs self.old self.new) }
         ensures newer { OnOk result ((w : ℕ) → IsFirstNewer places.now event w → Forced places.now event w
-            → 0 < times_kept self.new.pairs event w) }
+            → 0 < times_listed self.new.list.items event w) }
     {
         places.sound();
         match first_newer(places, event) {
@@ -236,12 +214,12 @@ impl Linked {
 /// The forced pairs of a recording from which all others follow where no read overlooks a store, at most five for each
 /// event.
 pub(crate) fn link_all(alloc: Global, places: &Places<'_>) -> Result<Linked, OutOfMemory>
-    ensures few { IfOk result (λ l. length l.pairs.links ≤ 5 * event_count places.now) }
+    ensures few { IfOk result (λ l. length l.list.items ≤ 5 * event_count places.now) }
     ensures linked { IfOk result (IsLinked places.now) }
-    ensures enough { IfOk result (λ l. (d e : ℕ) → IsStep places.now d e → 0 < times_kept l.pairs d e) }
+    ensures enough { IfOk result (λ l. (d e : ℕ) → IsStep places.now d e → 0 < times_listed l.list.items d e) }
 {
     places.sound();
-    let mut linked = Linked::none(alloc, places)?;
+    let mut linked = Linked::none(alloc, places.len())?;
     let mut start = 0;
     let mut nonload = 0;
     let mut nonstore = 0;
@@ -257,4 +235,16 @@ pub(crate) fn link_all(alloc: Global, places: &Places<'_>) -> Result<Linked, Out
         nonstore = last_of(event.is_store, nonstore, number);
     }
     Ok(linked)
+}
+
+/// These pairs, with the second events of each first one side by side.
+pub(crate) fn link_rows(alloc: Global, places: &Places<'_>) -> Result<Pairs, OutOfMemory>
+    ensures size { IfOk result (λ p. length p.starts ≡ event_count places.now + 1) }
+    ensures few { IfOk result (λ p. length p.items ≤ 5 * event_count places.now) }
+    ensures forced { IfOk result (λ p. (d e : ℕ) → 0 < times_kept p d e → Forced places.now d e) }
+    ensures enough { IfOk result (λ p. (d e : ℕ) → IsStep places.now d e → 0 < times_kept p d e) }
+{
+    places.sound();
+    let linked = link_all(alloc, places)?;
+    Pairs::of(alloc, &linked.list, places.len())
 }

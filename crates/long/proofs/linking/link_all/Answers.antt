@@ -1,20 +1,21 @@
-use Rattle.std.proofs.Common.{◌<◌, inl, inr, ℕ, true, false, arith, sym, subst, ap, ◌∙◌}
+use Rattle.std.proofs.Common.{◌<◌, inl, inr, ℕ, true, false, List, length, arith, sym, subst, ap, ◌∙◌}
 use Rattle.std.proofs.lemmas.Bool.{cases_eq}
 use Rattle.recording.specs.Execution.{event_at, event_count}
 use Rattle.relations.proofs.Cores.{core_next, core_so_far, core_start}
 use Rattle.relations.specs.Direct.{is_passed, IsFirstNewer, IsNextWrite}
 use Rattle.relations.specs.Forced.{Forced}
 use Rattle.relations.specs.ForcedLaws.{forced_within}
-use Rattle.long.specs.Chains.{times_kept}
+use Rattle.long.specs.Rows.{times_listed}
 use Rattle.long.specs.Linked.{IsRightBefore}
+use Rattle.long.proofs.Listed.{times_none}
 use Rattle.long.proofs.Steps.{last_next}
 use Rattle.long.proofs.linking.link_all.Goals as goal
 use Rattle.long.proofs.linking.link_all.Goals.{then-not-is_after, else-not-is_after}
 
 pub loop-number-init : goal.loop-number-init
 loop-number-init c = record {
-  few = omega (arith, c.in_ok-linked.ensures.few);
-  linked = c.in_ok-linked.ensures.linked;
+  few = omega (arith, ap (λ (l : List (ℕ × ℕ)). length l) c.in_ok-linked.ensures);
+  linked = λ d e some. absurd (omega (arith, some, times_none c.in_ok-linked.linked.list.items c.in_ok-linked.ensures d e));
   core = core_start c.args.places.now;
   nonload = λ d h. absurd (omega (arith, h.0));
   nonstore = λ d h. absurd (omega (arith, h.0));
@@ -31,7 +32,7 @@ loop-number-preserved c =
     let next = c.in_ok-put_next.ensures in
     let more = c.in_ok-put_newer.ensures in
     let was = c.loop-number.invariant in
-    let new = c.put_newer.new.self.pairs in
+    let new = c.put_newer.new.self.list.items in
     let event : n < event_count x = omega (arith, c.loop-number-test.true, c.len-number-end.ensures) in
     let core =
     core_next x c.loop-number.start n c.if-not-is_after.start c.is_after.result event c.loop-number.invariant.core
@@ -52,19 +53,19 @@ loop-number-preserved c =
           ∙ ap (λ (k : ℕ). is_passed false (event_at x k)) c.event-event.ensures.number)
           c.last_of-nonstore.ensures was.nonstore;
       before = λ d e low right forced. elim (cases_eq n e) [
-        | inl one ↦ subst (λ (k : ℕ). 0 < times_kept new d k) one (more.kept d n (next.kept d n
+        | inl one ↦ subst (λ (k : ℕ). 0 < times_listed new d k) one (more.kept d n (next.kept d n
             (made.before d (subst (λ (k : ℕ). IsRightBefore x d k) (sym one) right)
             (subst (λ (k : ℕ). Forced x d k) (sym one) forced))))
         | inr other ↦ more.kept d e (next.kept d e
             (made.kept d e (was.before d e (omega (arith, low, other)) right forced)))
       ];
       next = λ d e low is. elim (cases_eq n d) [
-        | inl one ↦ subst (λ (k : ℕ). 0 < times_kept new k e) one
+        | inl one ↦ subst (λ (k : ℕ). 0 < times_listed new k e) one
             (more.kept n e (next.next e (subst (λ (k : ℕ). IsNextWrite x k e) (sym one) is)))
         | inr other ↦ more.kept d e (next.kept d e (made.kept d e (was.next d e (omega (arith, low, other)) is)))
       ];
       newer = λ e w low first forced. elim (cases_eq n e) [
-        | inl one ↦ subst (λ (k : ℕ). 0 < times_kept new k w) one
+        | inl one ↦ subst (λ (k : ℕ). 0 < times_listed new k w) one
             (more.newer w (subst (λ (k : ℕ). IsFirstNewer x k w) (sym one) first)
             (subst (λ (k : ℕ). Forced x k w) (sym one) forced))
         | inr other ↦ more.kept e w (next.kept e w

@@ -3,7 +3,7 @@ use Rattle.std.proofs.Common.{sym, subst, ap, ◌∙◌}
 use Rattle.recording.specs.Execution.{event_count}
 use Rattle.order.specs.Open.{IsOpen}
 use Rattle.order.proofs.Greedy.{IsGreedy, greedy_none}
-use Rattle.long.specs.Chains.{times_kept}
+use Rattle.long.specs.Rows.{times_kept}
 use Rattle.long.specs.Sorted.{IsLeft}
 use Rattle.long.proofs.Lists.{length_push}
 use Rattle.long.proofs.Sorts.{events_left, first_order, pairs_within, place_room, placed_more}
@@ -12,19 +12,27 @@ use Rattle.long.proofs.sorting.sort.Goals as goal
 pub loop-placed-init : goal.loop-placed-init
 loop-placed-init c =
     let n : ℕ = event_count c.args.places.now in
-    let p = c.in_ok-pairs.field-0.pairs in
-    let linked = c.in_ok-pairs.ensures.linked in
-    let counts : List ℕ = c.in_ok-pairs.field-0.counts.items in
+    let p = c.in_ok-pairs.pairs in
+    let counts : List ℕ = c.in_ok-counts.counts.items in
+    let size : length p.starts - 1 ≡ n = omega (arith, c.in_ok-pairs.ensures.size) in
     let none : c.in_ok-order.order.items ≡ [] = c.in_ok-order.ensures.items in
     record {
       size = ap (λ (l : List ℕ). length l) none;
-      forced = linked.forced;
+      forced = c.in_ok-pairs.ensures.forced;
       enough = c.in_ok-pairs.ensures.enough;
       greedy = subst (λ (l : List ℕ). IsGreedy (times_kept p) n l) (sym none) (greedy_none (times_kept p) n);
       waiting = subst (λ (l : List ℕ). IsOpen (times_kept p) n l c.in_ok-waiting.waiting) (sym none)
           (subst (λ (l : List ℕ). IsOpen (times_kept p) n [] l) (sym c.in_ok-waiting.ensures)
-          (subst (λ (k : ℕ). IsOpen (times_kept p) k [] counts) linked.size linked.counted.waiting));
+          (subst (λ (k : ℕ). IsOpen (times_kept p) k [] counts) size c.in_ok-counts.ensures));
     }
+
+pub counts-requires-clause-within : goal.counts-requires-clause-within
+counts-requires-clause-within c = λ d f some. omega (
+  arith,
+  (pairs_within c.args.places.now c.sound.ensures.well_formed c.in_ok-pairs.pairs c.in_ok-pairs.ensures.forced d f
+      some).1,
+  c.in_ok-pairs.ensures.size,
+)
 
 pub returns-in_default : goal.returns-in_default
 returns-in_default c = λ _. subst (λ (l : List ℕ). IsLeft c.args.places.now (record {

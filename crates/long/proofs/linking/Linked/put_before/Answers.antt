@@ -1,7 +1,7 @@
 use Rattle.std.proofs.Common.{◌≡◌, ◌<◌, ◌∙◌, inl, inr, ℕ, sym, subst}
 use Rattle.std.proofs.lemmas.Bool.{eqb-false, iff_false, not-true}
 use Rattle.relations.specs.Forced.{Forced}
-use Rattle.long.specs.Chains.{times_kept}
+use Rattle.long.specs.Rows.{times_listed}
 use Rattle.long.proofs.Steps.{source_forced}
 use Rattle.long.proofs.linking.Linked.put_before.Goals as goal
 use Rattle.long.proofs.linking.Linked.put_before.Goals.{then-source-event, else-source-event}
@@ -21,9 +21,9 @@ returns-clause-before c =
     let x = c.args.places.now in
     let e = c.args.event in
     let new = c.put_forced-3.new.self in
-    let is : (a d : ℕ) → (Forced x a e → 0 < times_kept new.pairs a e) → a ≡ d → Forced x d e
-    → 0 < times_kept new.pairs d e =
-    λ a d put same forced. subst (λ (k : ℕ). 0 < times_kept new.pairs k e) same
+    let is : (a d : ℕ) → (Forced x a e → 0 < times_listed new.list.items a e) → a ≡ d → Forced x d e
+    → 0 < times_listed new.list.items d e =
+    λ a d put same forced. subst (λ (k : ℕ). 0 < times_listed new.list.items k e) same
     (put (subst (λ (k : ℕ). Forced x k e) (sym same) forced)) in
     λ d right forced. elim right [
       | inl load ↦ is c.args.nonload d

@@ -2,7 +2,7 @@ use Rattle.std.proofs.Common.{◌≡◌, ◌<◌, ◌∙◌, ℕ, sym, subst}
 use Rattle.std.proofs.lemmas.Bool.{eqb-false, iff_false, not-true}
 use Rattle.std.proofs.lemmas.Result.{on_ok_weaker}
 use Rattle.relations.specs.Forced.{Forced}
-use Rattle.long.specs.Chains.{times_kept}
+use Rattle.long.specs.Rows.{times_listed}
 use Rattle.long.proofs.Steps.{newer_forced}
 use Rattle.long.proofs.linking.Linked.put_newer.Goals as goal
 use Rattle.long.proofs.linking.Linked.put_newer.Goals.{then-write-event, else-write-event}
@@ -15,7 +15,7 @@ returns-after-write-event-clause-newer c =
     on_ok_weaker c.put_forced.result
     (λ put w h forced.
     let only : w ≡ c.in-Some.write = c.in-Some.ensures.1 w h in
-    subst (λ (k : ℕ). 0 < times_kept new.pairs e k) (sym only) (put (subst (λ (k : ℕ). Forced x e k) only forced)))
+    subst (λ (k : ℕ). 0 < times_listed new.list.items e k) (sym only) (put (subst (λ (k : ℕ). Forced x e k) only forced)))
     c.put_forced.ensures.here
 
 pub returns-in-None-clause-newer : goal.returns-in-None-clause-newer

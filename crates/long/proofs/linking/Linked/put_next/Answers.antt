@@ -1,6 +1,6 @@
 use Rattle.std.proofs.Common.{◌≡◌, ◌<◌, ℕ, sym, subst}
 use Rattle.std.proofs.lemmas.Result.{on_ok_weaker}
-use Rattle.long.specs.Chains.{times_kept}
+use Rattle.long.specs.Rows.{times_listed}
 use Rattle.long.proofs.Steps.{next_write_forced}
 use Rattle.long.proofs.linking.Linked.put_next.Goals as goal
 
@@ -16,7 +16,7 @@ returns-in-Some-clause-next c =
     on_ok_weaker c.put_forced.result
     (λ put w h.
     let only : w ≡ c.in-Some.write = c.in-Some.ensures.1 w h in
-    subst (λ (k : ℕ). 0 < times_kept new.pairs e k) (sym only)
+    subst (λ (k : ℕ). 0 < times_listed new.list.items e k) (sym only)
     (put (next_write_forced x c.sound.ensures.well_formed e c.in-Some.write c.in-Some.ensures.0)))
     c.put_forced.ensures.here
 
