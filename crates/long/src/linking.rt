@@ -126,7 +126,8 @@ impl Linked {
         ensures few { OnOk result (length self.new.list.items ≤ length self.old.list.items + 1) }
         ensures linked { OnOk result (IsLinked places.now self.new) }
         ensures kept { OnOk result (KeepsPairs self.old self.new) }
-        ensures here { OnOk result (Forced places.now first second → 0 < times_listed self.new.list.items first second) }
+        ensures here { OnOk result (Forced places.now first second
+            → 0 < times_listed self.new.list.items first second) }
     {
         places.sound();
         if known || places.forces(first, second) {
@@ -136,8 +137,8 @@ impl Linked {
     }
 
     /// Puts the forced pairs of which an event is the second, but for those of writes that it is next to and of reads
-    /// that it is newer for. Given are the first event of its core, and the last before it that is no plain load, and no
-    /// plain store, where there are such.
+    /// that it is newer for. Given are the first event of its core, and the last before it that is no plain load, and
+    /// no plain store, where there are such.
     fn put_before(
         &mut self,
         places: &Places<'_>,
