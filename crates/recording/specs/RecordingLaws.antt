@@ -1,5 +1,5 @@
 -- Recordings of the two sizes.
-use Rattle.std.proofs.Common.{◌≤◌, ◌<◌, ◌^◌, ◌-◌, ℕ, arith}
+use Rattle.std.proofs.Common.{◌≤◌, arith}
 use Rattle.recording.specs.declared.size.RecordingSize.{RecordingSize}
 use Rattle.recording.specs.declared.size.RecordingSize.TheVariants.{Short, Long}
 use Rattle.common.specs.declared.limits.TheConstants.{MAX_RECORDED_CORES, MAX_RECORDED_EVENTS, MAX_RECORDED_ADDRESSES}

@@ -8,8 +8,9 @@ use common::{Addr, EventId, OutOfMemory};
 use std::alloc::Global;
 
 impl<'p> Numbered<'p> {
-    ghost use Rattle.std.specs.Prelude.{◌≡◌, ◌↔◌, ◌<◌, ◌≤◌, ◌⊎◌, ℕ, IsTrue, IfOk, MatchOption, length};
+    ghost use Rattle.std.specs.Prelude.{◌≡◌, ◌↔◌, ◌+◌, ◌<◌, ◌≤◌, ◌⊎◌, ℕ, IsTrue, IfOk, MatchOption, length};
     ghost use Rattle.common.specs.declared.limits.TheConstants.{MAX_RECORDED_EVENTS};
+    ghost use Rattle.recording.specs.declared.size.RecordingSize.{RecordingSize};
     ghost use Rattle.recording.specs.declared.size.RecordingSize.TheVariants.{Long};
     ghost use Rattle.recording.specs.Execution.{event_count, Reads, Writes};
     ghost use Rattle.recording.specs.Recording.{IsRecordingWithin, IsWithinLimits};
@@ -51,32 +52,36 @@ impl<'p> Numbered<'p> {
         self.has_all_lists()
     }
 
-    /// The least event whose source is no write to the address that it reads.
-    fn first_without_source(&self) -> Option<EventId>
-        requires { event_count self.now ≤ MAX_RECORDED_EVENTS }
-        ensures { MatchOption result ((e : ℕ) → HasSource self.now e)
-            (λ e. IsLeastWithout (HasSource self.now) e) }
+    /// The least event up to this one whose value read is not that of its source; what was found before it is given.
+    fn least_wrong(&self, wrong: Option<EventId>, number: EventId) -> Option<EventId>
+        requires { MatchOption wrong ((e : ℕ) → e < number → HasValue self.now e) (IsLeastWithout (HasValue self.now)) }
+        ensures { MatchOption result ((e : ℕ) → e < number + 1 → HasValue self.now e)
+            (IsLeastWithout (HasValue self.now)) }
     {
-        for number in 0..self.len() as EventId {
-            if !self.has_source(number) {
-                return Some(number);
-            }
+        if wrong.is_some() || self.has_value(number) {
+            return wrong;
         }
-        None
+        Some(number)
     }
 
-    /// The least event whose value read is not that of its source.
-    fn first_without_value(&self) -> Option<EventId>
+    /// The least event whose source is no write to the address that it reads; where there is none, the least whose value
+    /// read is not that of its source.
+    fn first_wrong_read(&self) -> Option<RecError>
         requires { event_count self.now ≤ MAX_RECORDED_EVENTS }
-        ensures { MatchOption result ((e : ℕ) → HasValue self.now e)
-            (λ e. IsLeastWithout (HasValue self.now) e) }
+        ensures { MatchOption result (((e : ℕ) → HasSource self.now e) × ((e : ℕ) → HasValue self.now e))
+            (λ e. (size : RecordingSize) → IsWithinLimits size self.now → IsRefusal size self.now e) }
     {
+        let mut wrong = None;
         for number in 0..self.len() as EventId {
-            if !self.has_value(number) {
-                return Some(number);
+            if !self.has_source(number) {
+                return Some(RecError::Source(number));
             }
+            wrong = self.least_wrong(wrong, number);
         }
-        None
+        match wrong {
+            Some(number) => Some(RecError::Value(number)),
+            None => None,
+        }
     }
 
     /// The least address whose write list does not have each of its writes once and nothing else.
@@ -104,11 +109,8 @@ impl<'p> Numbered<'p> {
         if !self.is_within_limits(size) {
             return Ok(Some(RecError::Limits));
         }
-        if let Some(event) = self.first_without_source() {
-            return Ok(Some(RecError::Source(event)));
-        }
-        if let Some(event) = self.first_without_value() {
-            return Ok(Some(RecError::Value(event)));
+        if let Some(refusal) = self.first_wrong_read() {
+            return Ok(Some(refusal));
         }
         if let Some(address) = self.first_without_list(alloc)? {
             return Ok(Some(RecError::WriteList(address)));

@@ -7,7 +7,7 @@ ghost use Rattle.recorder.specs.ByTokens.{Adds, GivesValue, GivesMembers, value_
 ghost use Rattle.recorder.specs.ReadMembers.{AreFields, count_of};
 ghost use Rattle.serde_json.specs.Data.{no_members};
 
-use crate::plain::usual::take_usual;
+use crate::plain::usual::{Spaced, Tight, take_usual};
 use crate::plain::values::{take_key, take_kind, take_number, take_source, take_value};
 use crate::spaced::{skip_one, take_sign};
 use common::{Addr, EventId};
@@ -127,7 +127,6 @@ fn take_fields(rest: &mut Cursor<'_>) -> Option<Fields>
 }
 
 /// An event with its keys in any order.
-#[inline(never)]
 fn take_any(rest: &mut Cursor<'_>) -> Option<Event>
     ensures { IfSome result (λ e. (depth : ℕ)
         → GivesValue clipped_event (suc depth) (value_tokens rest.old) e (later_tokens rest.new)) }
@@ -139,16 +138,30 @@ fn take_any(rest: &mut Cursor<'_>) -> Option<Event>
     fields.event(fields.len())
 }
 
+/// An event in the layout of `json.dumps`, or with its keys in any order.
+#[inline(never)]
+fn take_spaced(rest: &mut Cursor<'_>) -> Option<Event>
+    ensures { IfSome result (λ e. (depth : ℕ)
+        → GivesValue clipped_event (suc depth) (value_tokens rest.old) e (later_tokens rest.new)) }
+{
+    skip_one(rest);
+    let mut spaced = Cursor::new(rest.rest());
+    if let Some(event) = take_usual::<Spaced>(&mut spaced) {
+        *rest = Cursor::new(spaced.rest());
+        return Some(event);
+    }
+    take_any(rest)
+}
+
 /// An event.
 pub(crate) fn take_event(rest: &mut Cursor<'_>) -> Option<Event>
     ensures { IfSome result (λ e. (depth : ℕ)
         → GivesValue clipped_event (suc depth) (value_tokens rest.old) e (later_tokens rest.new)) }
 {
-    skip_one(rest);
-    let mut usual = Cursor::new(rest.rest());
-    if let Some(event) = take_usual(&mut usual) {
-        *rest = Cursor::new(usual.rest());
+    let mut tight = Cursor::new(rest.rest());
+    if let Some(event) = take_usual::<Tight>(&mut tight) {
+        *rest = Cursor::new(tight.rest());
         return Some(event);
     }
-    take_any(rest)
+    take_spaced(rest)
 }

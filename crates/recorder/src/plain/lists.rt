@@ -18,6 +18,7 @@ const ROOM: usize = 32;
 const LISTS: usize = 16;
 
 /// A list, which has room for this many items at first.
+#[inline(never)]
 fn take_list_in<K: Kind>(
     alloc: Global,
     rest: &mut Cursor<'_>,

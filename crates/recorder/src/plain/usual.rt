@@ -1,7 +1,6 @@
-//! Events with the keys in the order of `write_recording`, read from the bytes of a text: with no white space, or with
-//! that of Python's `json.dumps`.
+//! Events with the keys in the order of `write_recording`, read from the bytes of a text.
 
-ghost use Rattle.std.specs.Prelude.{◌≡◌, ◌++◌, ◌∷◌, ◌⊎◌, ℕ, List, IfSome, IsTrue, codes, decimal, false, true};
+ghost use Rattle.std.specs.Prelude.{◌≡◌, ◌++◌, ◌∷◌, ℕ, List, IfSome, codes, decimal, true};
 ghost use Rattle.json.specs.Token.{key, number};
 ghost use Rattle.json.specs.Word.{ends_word};
 ghost use Rattle.serde_json.specs.Written.{compact_text};
@@ -16,15 +15,42 @@ use common::{Addr, EventId};
 use recording::Event;
 use texts::Cursor;
 
-/// Takes the text that stands next, if it is this one or the other.
-fn take_either(rest: &mut Cursor<'_>, tight: &[u8], spaced: &[u8]) -> bool
-    ensures found { IsTrue result → (rest.old ≡ tight.now ++ rest.new) ⊎ (rest.old ≡ spaced.now ++ rest.new) }
-    ensures kept { result ≡ false → rest.new ≡ rest.old }
-{
-    if rest.take(tight) {
-        return true;
+/// How the text of an event is laid out.
+pub(crate) trait Layout {
+    ghost use Rattle.std.specs.Prelude.{◌≡◌, ◌++◌, ◌⊎◌, IsTrue};
+    ghost use Rattle.json.specs.Lex.{lex, between};
+
+    /// Takes the text that stands next, if it is this one, as the layout has it: without white space or with it.
+    fn take_part(rest: &mut Cursor<'_>, tight: &[u8], spaced: &[u8]) -> bool
+        ensures { IsTrue result → (rest.old ≡ tight.now ++ rest.new) ⊎ (rest.old ≡ spaced.now ++ rest.new) };
+
+    /// Passes over what the layout has after a colon.
+    fn skip_gap(rest: &mut Cursor<'_>)
+        ensures { lex between rest.new ≡ lex between rest.old };
+}
+
+/// That of `write_recording`, without white space. It has no values.
+pub(crate) enum Tight {}
+
+/// That of Python's `json.dumps`, with a space after each comma and colon. It has no values.
+pub(crate) enum Spaced {}
+
+impl Layout for Tight {
+    fn take_part(rest: &mut Cursor<'_>, tight: &[u8], _spaced: &[u8]) -> bool {
+        rest.take(tight)
     }
-    rest.take(spaced)
+
+    fn skip_gap(_rest: &mut Cursor<'_>) {}
+}
+
+impl Layout for Spaced {
+    fn take_part(rest: &mut Cursor<'_>, _tight: &[u8], spaced: &[u8]) -> bool {
+        rest.take(spaced)
+    }
+
+    fn skip_gap(rest: &mut Cursor<'_>) {
+        skip_one(rest);
+    }
 }
 
 /// Takes the number of 32 bits that stands next, if one does.
@@ -46,16 +72,17 @@ fn take_source(rest: &mut Cursor<'_>) -> Option<Option<EventId>>
 }
 
 /// Takes the value and the source of a read.
-fn take_read(rest: &mut Cursor<'_>) -> Option<(u32, Option<EventId>)>
+#[inline(always)]
+fn take_read<L: Layout>(rest: &mut Cursor<'_>) -> Option<(u32, Option<EventId>)>
     ensures { IfSome result (λ p. IsWord p.0 × IsWordSource p.1 × BeginsComma rest.old × (ends_word rest.new ≡ true
         → later_tokens rest.old ≡ key (codes "r") ∷ number (decimal p.0) ∷ key (codes "s")
         ∷ tokens_of (source_data p.1) (later_tokens rest.new))) }
 {
-    if !take_either(rest, b",\"r\":", b", \"r\": ") {
+    if !L::take_part(rest, b",\"r\":", b", \"r\": ") {
         return None;
     }
     let value = take_word(rest)?;
-    if !take_either(rest, b",\"s\":", b", \"s\": ") {
+    if !L::take_part(rest, b",\"s\":", b", \"s\": ") {
         return None;
     }
     let source = take_source(rest)?;
@@ -63,11 +90,12 @@ fn take_read(rest: &mut Cursor<'_>) -> Option<(u32, Option<EventId>)>
 }
 
 /// Takes the value of a write.
-fn take_write(rest: &mut Cursor<'_>) -> Option<u32>
+#[inline(always)]
+fn take_write<L: Layout>(rest: &mut Cursor<'_>) -> Option<u32>
     ensures { IfSome result (λ w. IsWord w × BeginsComma rest.old × (ends_word rest.new ≡ true
         → later_tokens rest.old ≡ key (codes "w") ∷ number (decimal w) ∷ later_tokens rest.new)) }
 {
-    if !take_either(rest, b",\"w\":", b", \"w\": ") {
+    if !L::take_part(rest, b",\"w\":", b", \"w\": ") {
         return None;
     }
     let value = take_word(rest)?;
@@ -75,40 +103,40 @@ fn take_write(rest: &mut Cursor<'_>) -> Option<u32>
 }
 
 /// Takes the kind of an event at this address and what the kind has, all but the brace that closes the event.
-fn take_rest(a: Addr, rest: &mut Cursor<'_>) -> Option<Event>
+fn take_rest<L: Layout>(a: Addr, rest: &mut Cursor<'_>) -> Option<Event>
     ensures { IfSome result (λ e. (t : List ℕ) → rest.new ≡ 125 ∷ t → EndsEvent a rest.old e t) }
 {
-    if !take_either(rest, b",\"k\":\"", b", \"k\": \"") {
+    if !L::take_part(rest, b",\"k\":\"", b", \"k\": \"") {
         return None;
     }
     if rest.take(b"L\"") {
-        let (r, s) = take_read(rest)?;
+        let (r, s) = take_read::<L>(rest)?;
         return Some(Event::L { a, r, s });
     }
     if rest.take(b"S\"") {
-        let w = take_write(rest)?;
+        let w = take_write::<L>(rest)?;
         return Some(Event::S { a, w });
     }
     if rest.take(b"R\"") {
-        let (r, s) = take_read(rest)?;
-        let w = take_write(rest)?;
+        let (r, s) = take_read::<L>(rest)?;
+        let w = take_write::<L>(rest)?;
         return Some(Event::R { a, r, s, w });
     }
     if rest.take(b"C\"") {
-        let (r, s) = take_read(rest)?;
+        let (r, s) = take_read::<L>(rest)?;
         return Some(Event::C { a, r, s });
     }
     None
 }
 
 /// Takes a fence, if one stands next.
-fn take_fence(rest: &mut Cursor<'_>) -> Option<Event>
+fn take_fence<L: Layout>(rest: &mut Cursor<'_>) -> Option<Event>
     ensures { IfSome result (λ e. WritesEvent rest.old e rest.new) }
 {
     if !rest.take(b"{\"k\":") {
         return None;
     }
-    skip_one(rest);
+    L::skip_gap(rest);
     if !rest.take(b"\"F\"}") {
         return None;
     }
@@ -116,15 +144,15 @@ fn take_fence(rest: &mut Cursor<'_>) -> Option<Event>
 }
 
 /// Takes the event that stands next, if its keys are in this order.
-pub(crate) fn take_usual(rest: &mut Cursor<'_>) -> Option<Event>
+pub(crate) fn take_usual<L: Layout>(rest: &mut Cursor<'_>) -> Option<Event>
     ensures { IfSome result (λ e. WritesEvent rest.old e rest.new) }
 {
     if !rest.take(b"{\"a\":") {
-        return take_fence(rest);
+        return take_fence::<L>(rest);
     }
-    skip_one(rest);
+    L::skip_gap(rest);
     let a = take_word(rest)?;
-    let event = take_rest(a, rest)?;
+    let event = take_rest::<L>(a, rest)?;
     if !rest.take(b"}") {
         return None;
     }

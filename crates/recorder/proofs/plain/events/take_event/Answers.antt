@@ -8,8 +8,8 @@ use Rattle.recorder.proofs.plain.events.take_event.Goals as goal
 
 pub returns-in-Some : goal.returns-in-Some
 returns-in-Some c depth =
-    let begins = ap (lex between) (c.new-usual.ensures ∙ c.rest.ensures) ∙ c.skip_one.ensures in
+    let begins = ap (lex between) (c.new-tight.ensures ∙ c.rest.ensures) in
     rw (c.new.ensures ∙ c.rest-in-Some.ensures)
     (subst (λ (ts : List Token). GivesValue clipped_event (suc depth) ts c.in-Some.event
     (later_tokens c.take_usual.new.rest)) (ap (punctuate after_comma) begins)
-    (usual_gives depth c.new-usual.result c.take_usual.new.rest c.in-Some.event c.in-Some.ensures))
+    (usual_gives depth c.new-tight.result c.take_usual.new.rest c.in-Some.event c.in-Some.ensures))

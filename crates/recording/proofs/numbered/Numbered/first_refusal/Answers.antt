@@ -8,5 +8,5 @@ first_without_list-requires c = within_of_size c.args.size c.args.self.now (c.if
 
 pub returns : goal.returns
 returns c = recording c.args.self.now
-    (c.if-not-is_within_limits.ensures.0 refl) c.in_default.ensures c.in_default-first_without_value.ensures
+    (c.if-not-is_within_limits.ensures.0 refl) c.in_default.ensures.0 c.in_default.ensures.1
     (rw c.in_default-2.is at c.in_ok-address.ensures)
