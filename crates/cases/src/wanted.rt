@@ -103,6 +103,53 @@ fn perform_one<R: Threads + Wait + Sync>(
     Ok(is_met)
 }
 
+/// Counts each case of a file with this name.
+fn count_cases<R: Threads + Wait + Sync>(
+    rt: &HostRuntime,
+    threads: &R,
+    name: &str,
+    text: &str,
+    tally: &mut Tally,
+) -> io::Result<()> {
+    for case in &cases_of(rt.alloc(), text)? {
+        if !case.is_remark() {
+            tally.count(perform_one(rt, threads, name, case)?);
+        }
+    }
+    Ok(())
+}
+
+/// Whether this verdict is printed of the recording at this path.
+fn is_judged<R: Threads + Wait + Sync>(
+    rt: &HostRuntime,
+    threads: &R,
+    path: &str,
+    verdict: &str,
+) -> io::Result<bool> {
+    let line = format!(in rt.alloc(); "judge {path}.json")?;
+    let found = perform_words(rt, threads, line.as_str(), b"")?;
+    Ok(is_verdict(&found, verdict.as_bytes()))
+}
+
+/// Whether the order of this verdict, if it is one, is one of the recording at this path.
+fn is_ordered(rt: &HostRuntime, path: &str, verdict: &str) -> io::Result<bool> {
+    let name = format!(in rt.alloc(); "{path}.json")?;
+    let recording = fs::read(rt, name.as_str())?;
+    Ok(has_order(rt.alloc(), recording.as_slice(), verdict)?)
+}
+
+/// Whether the runs by threads of the program at this path are complete, and in order.
+fn is_kept<R: Threads + Wait + Sync>(
+    rt: &HostRuntime,
+    threads: &R,
+    path: &str,
+) -> io::Result<bool> {
+    Ok(
+        is_run(rt, threads, "live", path, "--buffer", 1)?
+            && is_run(rt, threads, "live", path, "--buffer", 8)?,
+    )
+}
+
 /// Counts whether the file at this path with this ending meets a rule, and names it where it does not. Of a file of
 /// cases it counts each case.
 fn count_one<R: Threads + Wait + Sync>(
@@ -115,38 +162,15 @@ fn count_one<R: Threads + Wait + Sync>(
 ) -> io::Result<()> {
     let name = format!(in rt.alloc(); "{path}{ending}")?;
     let text = fs::read_to_string(rt, name.as_str())?;
+    let text = text.as_str();
     let is_as_wanted = match rule {
-        Rule::Performed => {
-            for case in &cases_of(rt.alloc(), text.as_str())? {
-                if !case.is_remark() {
-                    tally.count(perform_one(rt, threads, name.as_str(), case)?);
-                }
-            }
-            return Ok(());
-        }
-        Rule::Judged => {
-            let line = format!(in rt.alloc(); "judge {path}.json")?;
-            is_verdict(
-                &perform_words(rt, threads, line.as_str(), b"")?,
-                text.as_bytes(),
-            )
-        }
-        Rule::Order => {
-            let recording = format!(in rt.alloc(); "{path}.json")?;
-            has_order(
-                rt.alloc(),
-                fs::read(rt, recording.as_str())?.as_slice(),
-                text.as_str(),
-            )?
-        }
+        Rule::Performed => return count_cases(rt, threads, name.as_str(), text, tally),
+        Rule::Judged => is_judged(rt, threads, path, text)?,
+        Rule::Order => is_ordered(rt, path, text)?,
         Rule::Seed(seed) => is_run(rt, threads, "run", path, "--seed", seed)?,
-        Rule::Run => is_run_in_order(rt.alloc(), text.as_str())?,
-        Rule::Kept => {
-            prints_back(rt.alloc(), text.as_str())
-                && is_run(rt, threads, "live", path, "--buffer", 1)?
-                && is_run(rt, threads, "live", path, "--buffer", 8)?
-        }
-        Rule::PrintsBack => prints_back(rt.alloc(), text.as_str()),
+        Rule::Run => is_run_in_order(rt.alloc(), text)?,
+        Rule::Kept => prints_back(rt.alloc(), text) && is_kept(rt, threads, path)?,
+        Rule::PrintsBack => prints_back(rt.alloc(), text),
     };
     tally.count(is_as_wanted);
     if !is_as_wanted && is_shown(path) {
