@@ -3,12 +3,13 @@
 use crate::fault::RecError;
 use crate::numbered::Numbered;
 use crate::parts::RecordingParts;
+use crate::rules::ReadFault;
 use crate::size::RecordingSize;
 use common::{Addr, EventId, OutOfMemory};
 use std::alloc::Global;
 
 impl<'p> Numbered<'p> {
-    ghost use Rattle.std.specs.Prelude.{◌≡◌, ◌↔◌, ◌+◌, ◌<◌, ◌≤◌, ◌⊎◌, ℕ, IsTrue, IfOk, MatchOption, length};
+    ghost use Rattle.std.specs.Prelude.{◌≡◌, ◌↔◌, ◌<◌, ◌≤◌, ◌⊎◌, ℕ, IsTrue, IfOk, MatchOption, length};
     ghost use Rattle.common.specs.declared.limits.TheConstants.{MAX_RECORDED_EVENTS};
     ghost use Rattle.recording.specs.declared.size.RecordingSize.{RecordingSize};
     ghost use Rattle.recording.specs.declared.size.RecordingSize.TheVariants.{Long};
@@ -52,18 +53,6 @@ impl<'p> Numbered<'p> {
         self.has_all_lists()
     }
 
-    /// The least event up to this one whose value read is not that of its source; what was found before it is given.
-    fn least_wrong(&self, wrong: Option<EventId>, number: EventId) -> Option<EventId>
-        requires { MatchOption wrong ((e : ℕ) → e < number → HasValue self.now e) (IsLeastWithout (HasValue self.now)) }
-        ensures { MatchOption result ((e : ℕ) → e < number + 1 → HasValue self.now e)
-            (IsLeastWithout (HasValue self.now)) }
-    {
-        if wrong.is_some() || self.has_value(number) {
-            return wrong;
-        }
-        Some(number)
-    }
-
     /// The least event whose source is no write to the address that it reads; where there is none, the least whose value
     /// read is not that of its source.
     fn first_wrong_read(&self) -> Option<RecError>
@@ -73,10 +62,11 @@ impl<'p> Numbered<'p> {
     {
         let mut wrong = None;
         for number in 0..self.len() as EventId {
-            if !self.has_source(number) {
-                return Some(RecError::Source(number));
+            match self.read_fault(number) {
+                Some(ReadFault::Source) => return Some(RecError::Source(number)),
+                Some(ReadFault::Value) => wrong = wrong.or(Some(number)),
+                None => {}
             }
-            wrong = self.least_wrong(wrong, number);
         }
         match wrong {
             Some(number) => Some(RecError::Value(number)),
