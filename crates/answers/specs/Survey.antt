@@ -5,7 +5,7 @@ use Rattle.recording.specs.Execution.{Execution}
 use Rattle.recorder.specs.Reading.{IsReadingResult}
 use Rattle.ledger.specs.declared.ledger.Ledger.{Ledger}
 use Rattle.ledger.specs.declared.survey_ledger.SurveyLedger.{SurveyLedger}
-use Rattle.report.specs.Answer.{IsAnswerOf, IsRefusedAnswer}
+use Rattle.text_judge.specs.Answer.{IsAnswerOf, IsRefusedAnswer}
 use Rattle.ledger.specs.Counted.{survey_text, values_survey_text}
 use Rattle.verdicts.specs.declared.printed.Answer.{Answer}
 use Rattle.verdicts.specs.declared.outcome.Outcome.{Outcome}

@@ -6,12 +6,12 @@ ghost use Rattle.answers.specs.Campaign.{IsCampaignAnswer, IsTrialsAnswer, ledge
 ghost use Rattle.answers.specs.Survey.{IsSurveyAnswer, IsValuesSurveyAnswer, empty_line, values_outcome};
 
 use common::{Gate, MAX_WORKERS, OutOfMemory};
-use ledger::{SurveyLedger, values_survey_text};
-use report::{Answer, Outcome, campaign_text, survey_text};
+use ledger::{SurveyLedger, campaign_text, survey_text, values_survey_text};
 use std::alloc::Global;
 use std::sync::Wait;
 use std::thread::Threads;
 use trials::{Campaign, Ledger, run_campaign};
+use verdicts::{Answer, Outcome};
 
 /// The outcome of a ledger: `Violation` where there is one, else the given outcome where something has no verdict.
 fn outcome_of(ledger: &Ledger, unjudged: Outcome) -> Outcome

@@ -11,10 +11,10 @@ use crate::parts::put_part;
 use common::OutOfMemory;
 use completion::{Answer as Completion, Link, complete, only_recording, part_of};
 use recorder::write_recording;
-use report::{Answer, Outcome};
 use std::alloc::Global;
 use texts::put_text;
 use values::Values;
+use verdicts::{Answer, Outcome};
 
 /// Adds a part of values of which each event is needed, if one is found, with its recording, if it has one alone.
 fn put_needed(

@@ -10,10 +10,10 @@ use histograms::{
 };
 use live::LiveError;
 use program::Program;
-use report::{Answer, Outcome};
 use std::alloc::Global;
 use std::sync::Wait;
 use std::thread::Threads;
+use verdicts::{Answer, Outcome};
 
 /// `Violation` where a run is one, else `Unfinished` where one is unfinished, else `Done`.
 fn outcome_of(histogram: &Histogram) -> Outcome

@@ -15,8 +15,8 @@ use recorder::write_recording;
 use recording::Recording;
 use reduction::reduce_long;
 use relations::Places;
-use report::Answer;
 use std::alloc::Global;
+use verdicts::Answer;
 
 /// What is answered to a recording of any length.
 pub(crate) fn answered(alloc: Global, recording: &Recording) -> Result<LongAnswer, OutOfMemory>

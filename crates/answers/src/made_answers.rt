@@ -14,8 +14,8 @@ use common::OutOfMemory;
 use cycles::{Made, critical_cycles, cycle_text, make};
 use judge::{Verdict, judge_alone};
 use recording::Recording;
-use report::{Answer, Outcome};
 use std::alloc::Global;
+use verdicts::{Answer, Outcome};
 
 /// The program of a cycle, an empty line, and the line of its recording with the verdict on it. Fails only if out of
 /// memory.

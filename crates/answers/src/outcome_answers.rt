@@ -11,8 +11,8 @@ use common::OutOfMemory;
 use outcome_texts::{Report, SeenLine, outcomes_text, report_on};
 use outcomes::{Observation, explains, outcomes};
 use program::Program;
-use report::{Answer, Outcome};
 use std::alloc::Global;
+use verdicts::{Answer, Outcome};
 
 /// What is asked of items.
 #[derive(Clone, Copy, Debug, PartialEq, Eq)]

@@ -24,9 +24,10 @@ use program_events::named_program;
 use recorder::write_recording;
 use recording::Recording;
 use reduction::{Reduced, reduce, restricted_program};
-use report::{Answer, answer_alone, read_or_refuse, verdict_answer};
 use std::alloc::Global;
+use text_judge::{answer_alone, read_or_refuse};
 use texts::{put_numbers, put_text};
+use verdicts::{Answer, verdict_answer};
 
 /// Adds the line of a label.
 fn put_label_line(out: &mut Vec<u8>, labels: &Labels, number: EventId) -> Result<(), OutOfMemory>

@@ -21,8 +21,8 @@ use long::{LongAnswer, long_outcome, without_labels};
 use program::{Name, Program};
 use recording::Recording;
 use reduction::{Reduced, reduce, reduce_long};
-use report::{Answer, outcome_of};
 use std::alloc::Global;
+use verdicts::{Answer, outcome_of};
 
 /// How a recording is rendered.
 #[derive(Clone, Copy, Debug, PartialEq, Eq)]

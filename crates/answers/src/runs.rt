@@ -11,9 +11,9 @@ use program::{Fault, Program};
 use rand_core::SeedableRng;
 use rand_xoshiro::Xoshiro256PlusPlus;
 use recorder::write_recording;
-use report::{Answer, Outcome, verdict_answer};
 use std::alloc::Global;
 use trials::{Judged, judged_end, run_seeded};
+use verdicts::{Answer, Outcome, verdict_answer};
 
 /// The line of a recording and the verdict on it, or that a run is unfinished, by what is judged of the
 /// machine in which it ends. Fails only if out of memory.

@@ -12,9 +12,9 @@ use common::OutOfMemory;
 use litmus::print;
 use machine::Machine;
 use program::Program;
-use report::Answer;
 use std::alloc::Global;
 use trials::{Campaign, Judged, judged_end, run_trial};
+use verdicts::Answer;
 
 /// What is left of the violation in which a run ends, where it is to be reduced; none where it ends in none.
 fn cut_end(

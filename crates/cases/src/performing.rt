@@ -3,12 +3,12 @@
 use commands::perform::perform;
 use commands::{asks_for_words, error_text};
 use devices::{Device, Disk};
-use report::Outcome;
 use std::alloc::{AllocError, Global};
 use std::io;
 use std::io::{ErrorKind, Write};
 use std::sync::Wait;
 use std::thread::Threads;
+use verdicts::Outcome;
 
 /// What a command printed, with its status.
 #[derive(Drop)]

@@ -9,7 +9,7 @@ use Rattle.recording.specs.Execution.{Execution}
 use Rattle.recorder.specs.Reading.{IsReadingResult}
 use Rattle.verdicts.specs.declared.outcome.Outcome.TheVariants.{Refused}
 use Rattle.verdicts.specs.declared.printed.Answer.{Answer}
-use Rattle.report.specs.Answer.{IsAnswerOf, IsLongAnswerOf}
+use Rattle.text_judge.specs.Answer.{IsAnswerOf, IsLongAnswerOf}
 use Rattle.verification.specs.Checked.{AnswersLine, IsCheckAnswer}
 use Rattle.verification.specs.Faults.{LinesHold, LongLinesHold, longest_cycle}
 use Rattle.verification.specs.Proof.{IsLongProof, IsProof}

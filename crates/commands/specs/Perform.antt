@@ -27,7 +27,7 @@ use Rattle.refusals.specs.Table.{texts_of}
 use Rattle.command_line.specs.Options.{AreOptions, IsOptionStop}
 use Rattle.inputs.specs.Inputs.{AreRead, AreStopped, AreTakenBack, Inputs, IsStoppedBy}
 use Rattle.commands.specs.OptionRefusals.{option_line}
-use Rattle.report.specs.Answer.{IsBegun, IsPut}
+use Rattle.report.specs.Written.{IsBegun, IsPut}
 use Rattle.commands.specs.Command.{IsAnswerTo, IsCommandStop, input_names}
 use Rattle.commands.specs.Survey.{IsEachWritten, TellsEach}
 

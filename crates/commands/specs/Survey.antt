@@ -21,7 +21,7 @@ use Rattle.ledger.specs.Counted.{survey_text, values_survey_text}
 use Rattle.verdicts.specs.declared.printed.Answer.{Answer}
 use Rattle.verdicts.specs.declared.outcome.Outcome.{Outcome}
 use Rattle.verdicts.specs.declared.outcome.Outcome.TheVariants as out
-use Rattle.report.specs.Answer.{IsLongAnswerOf}
+use Rattle.text_judge.specs.Answer.{IsLongAnswerOf}
 use Rattle.answers.specs.Campaign.{ledger_outcome}
 use Rattle.answers.specs.Survey.{IsLineAnswer, empty_line, values_outcome}
 use Rattle.inputs.specs.declared.command_error.CommandError.{CommandError}

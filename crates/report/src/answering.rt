@@ -1,103 +1,21 @@
-//! The answer to the bytes of a recording.
+//! The answer to a recording that a source gives, written to a sink.
 
 ghost use Rattle.std.specs.Prelude.{◌≡◌, ◌≢◌, ◌≤◌, ℕ, List, true, Err, IfErr, IfOk, OnOk};
 ghost use Rattle.std.specs.Io.KnownBytes.{Consumes, IsAtEnd};
 ghost use Rattle.devices.specs.Bytes.{FailsBy};
 ghost use Rattle.report.specs.declared.error.ReportError.{ReportError};
-ghost use Rattle.recording.specs.declared.size.RecordingSize.TheVariants.{Short};
-ghost use Rattle.report.specs.Answer.{IsAnswerOf, IsBegun, IsLongAnswerOf, IsPut, IsReadOrRefused};
 ghost use Rattle.report.specs.Errors.{is_read_failure, is_write_failure};
+ghost use Rattle.report.specs.Written.{IsBegun, IsPut};
+ghost use Rattle.text_judge.specs.Answer.{IsAnswerOf};
 
 use crate::error::ReportError;
-use common::{Gate, MAX_WORKERS, OutOfMemory};
+use common::{Gate, MAX_WORKERS};
 use devices::{Failed, ReadError, Sink, Source, read_all, write_all};
-use judge::{judge_alone, judge_gated};
-use long::{judge_long, long_text};
-use recorder::read_recording_of;
-use recording::{Recording, RecordingSize};
-use relations::Places;
 use std::alloc::Global;
 use std::sync::Wait;
 use std::thread::Threads;
-use verdicts::{Answer, Outcome, recording_line, verdict_answer};
-
-/// The recording of a size that the bytes are, or what is answered to them, since they are refused. Fails only if out
-/// of memory.
-pub fn read_or_refuse_of(
-    alloc: Global,
-    bytes: &[u8],
-    size: RecordingSize,
-) -> Result<Result<Recording, Answer>, OutOfMemory>
-    ensures { IfOk result (IsReadOrRefused size bytes.now) }
-{
-    match read_recording_of(alloc, bytes, size) {
-        Ok(recording) => Ok(Ok(recording)),
-        Err(refusal) => match recording_line(alloc, refusal)? {
-            Some(line) => Ok(Err(Answer {
-                outcome: Outcome::Refused,
-                text: line.into_bytes(),
-            })),
-            None => Err(OutOfMemory),
-        },
-    }
-}
-
-/// The recording that the bytes are, or what is answered to them, since they are refused. Fails only if out of memory.
-pub fn read_or_refuse(alloc: Global, bytes: &[u8]) -> Result<Result<Recording, Answer>, OutOfMemory>
-    ensures { IfOk result (IsReadOrRefused Short bytes.now) }
-{
-    read_or_refuse_of(alloc, bytes, RecordingSize::Short)
-}
-
-/// The text of the answer to the recording of any length that the bytes are, or the line of their refusal: an order,
-/// the least overlook, or a cycle of forced pairs of which no event is forced before another than its next. It does not
-/// block and starts no thread. Fails only if out of memory.
-pub fn long_answer(alloc: Global, bytes: &[u8]) -> Result<Answer, OutOfMemory>
-    ensures { IfOk result (IsLongAnswerOf bytes.now) }
-{
-    match read_or_refuse_of(alloc, bytes, RecordingSize::Long)? {
-        Ok(recording) => {
-            let places = Places::of(alloc, &recording)?;
-            let found = judge_long(alloc, &places)?;
-            long_text(alloc, &places, &found)
-        }
-        Err(refused) => Ok(refused),
-    }
-}
-
-/// The text of the verdict on the recording that the bytes are, or the line of their refusal. It does not block
-/// and starts no thread. Fails only if out of memory.
-pub fn answer_alone(alloc: Global, bytes: &[u8]) -> Result<Answer, OutOfMemory>
-    ensures { IfOk result (IsAnswerOf bytes.now) }
-{
-    match read_or_refuse(alloc, bytes)? {
-        Ok(recording) => {
-            let verdict = judge_alone(alloc, &recording)?;
-            verdict_answer(alloc, Vec::new(alloc), &recording, &verdict)
-        }
-        Err(refused) => Ok(refused),
-    }
-}
-
-/// What `answer_alone` answers, by workers that call the gate.
-fn answer_by<T: Threads + Wait + Sync, G: Gate>(
-    rt: &T,
-    alloc: Global,
-    bytes: &[u8],
-    workers: usize,
-    gate: &G,
-) -> Result<Answer, OutOfMemory>
-    requires { (1 ≤ workers) × (workers ≤ MAX_WORKERS) }
-    ensures { IfOk result (IsAnswerOf bytes.now) }
-{
-    match read_or_refuse(alloc, bytes)? {
-        Ok(recording) => {
-            let verdict = judge_gated(rt, alloc, &recording, workers, gate)?;
-            verdict_answer(alloc, Vec::new(alloc), &recording, &verdict)
-        }
-        Err(refused) => Ok(refused),
-    }
-}
+use text_judge::answer_by;
+use verdicts::{Answer, Outcome};
 
 /// Reads a recording to the end of a source, judges it by 1 to `MAX_WORKERS` workers, between calls of
 /// the gate, and writes the text of its verdict to a sink, or the line of its refusal. It flushes nothing.

@@ -4,8 +4,8 @@ ghost use Rattle.std.specs.Prelude.{◌≤◌};
 ghost use Rattle.common.specs.declared.limits.TheConstants.{MAX_WORKERS};
 
 use common::{Gate, OpenGate, OutOfMemory};
+use ledger::campaign_text;
 use program::{Fault, Shape};
-use report::campaign_text;
 use std::alloc::Global;
 use std::sync::Wait;
 use std::sync::atomic::{AtomicU64, Ordering};

@@ -5,8 +5,8 @@ ghost use Rattle.common.specs.declared.limits.TheConstants.{MAX_WORKERS};
 
 use crate::campaigns::{campaign, ledger_by};
 use common::Gate;
+use devices::{MemorySink, MemorySource};
 use program::Fault;
-use report::{MemorySink, MemorySource};
 use std::alloc::{AllocError, Global};
 use std::sync::Wait;
 use std::sync::atomic::{AtomicBool, AtomicU64, Ordering};

@@ -13,7 +13,7 @@ use Rattle.verdicts.specs.VerdictAnswer.{outcome_of}
 use Rattle.long.specs.declared.answer.LongAnswer.{LongAnswer}
 use Rattle.long.specs.declared.answer.LongAnswer.TheVariants as long
 use Rattle.long.specs.Texts.{long_outcome}
-use Rattle.report.specs.Answer.{IsAnswerOf, IsLongAnswerOf}
+use Rattle.text_judge.specs.Answer.{IsAnswerOf, IsLongAnswerOf}
 use Rattle.answers.specs.declared.rendering.Rendering.{Rendering}
 use Rattle.answers.specs.declared.rendering.Rendering.TheVariants.{Words, Picture, Reduction}
 use Rattle.answers.specs.LongReduced.{IsLongReducedAnswer}

@@ -3,7 +3,7 @@ use Rattle.std.specs.Prelude.{◌⊎◌, ℕ, List, Ok}
 use Rattle.recording.specs.Execution.{Execution}
 use Rattle.recorder.specs.Reading.{IsReadingResult}
 use Rattle.verdicts.specs.declared.printed.Answer.{Answer}
-use Rattle.report.specs.Answer.{IsRefusedAnswer}
+use Rattle.text_judge.specs.Answer.{IsRefusedAnswer}
 use Rattle.verification.specs.Checked.{AnswersLine, IsCheckAnswer}
 use Rattle.verification.specs.Faults.{LinesHold}
 use Rattle.verification.specs.Proof.{IsProof}

@@ -4,7 +4,7 @@ use Rattle.recording.specs.Execution.{Execution}
 use Rattle.recorder.specs.Reading.{IsReadingResult}
 use Rattle.verdicts.specs.declared.outcome.Outcome.TheVariants.{Refused}
 use Rattle.verdicts.specs.declared.printed.Answer.{Answer}
-use Rattle.report.specs.Answer.{IsAnswerOf}
+use Rattle.text_judge.specs.Answer.{IsAnswerOf}
 use Rattle.verification.specs.Proof.{IsProof}
 
 -- the answer to the bytes; unless it refuses them, its text holds of the recording that they are

@@ -8,7 +8,7 @@ use Rattle.recording.specs.declared.size.RecordingSize.TheVariants.{Long}
 use Rattle.recorder.specs.Reading.{IsReadingOf, IsReadingResult}
 use Rattle.program_events.specs.ProgramOf.{IsProgramOf}
 use Rattle.verdicts.specs.declared.printed.Answer.{Answer}
-use Rattle.report.specs.Answer.{IsRefusedAnswer, IsRefusedOf}
+use Rattle.text_judge.specs.Answer.{IsRefusedAnswer, IsRefusedOf}
 use Rattle.answers.specs.declared.rendering.Rendering.{Rendering}
 use Rattle.answers.specs.Rendered.{IsLongRenderedAnswer, IsRenderedAnswer}
 use Rattle.tsotest_library.specs.Refused.{IsTextRefused}

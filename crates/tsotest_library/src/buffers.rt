@@ -5,7 +5,7 @@ ghost use Rattle.verdicts.specs.Outcomes.{status_of};
 ghost use Rattle.tsotest_library.specs.Given.{IsNothing, IsWrittenWhole};
 
 use common::OutOfMemory;
-use report::{Answer, Outcome};
+use verdicts::{Answer, Outcome};
 
 /// Writes a text to the front of `out` where it has room, and its length to `len`.
 pub(crate) fn put_text(text: &[u8], out: &mut [u8], len: &mut usize)

@@ -4,8 +4,9 @@ ghost use Rattle.std.specs.Prelude.{IfOk};
 ghost use Rattle.tsotest_library.specs.Checked.{IsCheckOf};
 
 use common::OutOfMemory;
-use report::{Answer, read_or_refuse};
 use std::alloc::Global;
+use text_judge::read_or_refuse;
+use verdicts::Answer;
 use verification::check_answer_alone;
 
 /// Whether a text is that of a verdict that holds of the recording that the bytes are, as an answer, or the line of

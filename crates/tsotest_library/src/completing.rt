@@ -6,10 +6,9 @@ ghost use Rattle.tsotest_library.specs.Completed.{IsCompletedOf};
 use crate::states::states_refusal;
 use answers::completion_answer;
 use common::OutOfMemory;
-use report::{Answer, Outcome};
 use std::alloc::Global;
 use values_text::read_values;
-use verdicts::recording_line;
+use verdicts::{Answer, Outcome, recording_line};
 
 /// What the values of a text come to, or the line that refuses the number of states or the text. Fails only if out of
 /// memory.

@@ -6,8 +6,8 @@ ghost use Rattle.tsotest_library.specs.Given.{IsOutcomeOf};
 use answers::survey_answer;
 use common::OutOfMemory;
 use ledger::Ledger;
-use report::Outcome;
 use std::alloc::Global;
+use verdicts::Outcome;
 
 /// How recordings with these codes come out, as `survey` does. Fails only if out of memory.
 pub(crate) fn outcome_of(alloc: Global, codes: &[u64]) -> Result<Outcome, OutOfMemory>

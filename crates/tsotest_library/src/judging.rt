@@ -4,8 +4,9 @@ ghost use Rattle.std.specs.Prelude.{IfOk};
 ghost use Rattle.tsotest_library.specs.Judged.{IsJudgedOf};
 
 use common::OutOfMemory;
-use report::{Answer, answer_alone};
 use std::alloc::Global;
+use text_judge::answer_alone;
+use verdicts::Answer;
 use verification::every_verdict_holds;
 
 /// The text of the verdict on the recording that the bytes are, which holds of it, or the line of their refusal. Fails

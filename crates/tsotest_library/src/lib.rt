@@ -5,7 +5,7 @@ ghost use Rattle.std.specs.Prelude.{◌≡◌, ◌≢◌, ◌≤◌};
 ghost use Rattle.verdicts.specs.declared.outcome.Outcome.TheVariants.{Done, Ordered, Refused, Unfinished, Violation};
 ghost use Rattle.answers.specs.declared.rendering.Rendering.TheVariants.{Words, Picture, Reduction};
 ghost use Rattle.tsotest_library.specs.Given.{AreCodeNumbers, AreCodesAnswered, IsAnswered, IsNothing, IsWrittenWhole};
-ghost use Rattle.report.specs.Answer.{IsLongAnswerOf};
+ghost use Rattle.text_judge.specs.Answer.{IsLongAnswerOf};
 ghost use Rattle.tsotest_library.specs.Judged.{IsJudgedOf};
 ghost use Rattle.tsotest_library.specs.Rendered.{IsLongRenderedOf, IsRenderedOf};
 ghost use Rattle.tsotest_library.specs.Checked.{IsCheckOf};
@@ -25,9 +25,10 @@ mod tests;
 
 use answers::Rendering;
 use common::VERSION_LINE;
-use report::{Outcome, long_answer};
 use std::alloc::Global;
 use surveys::codes_of_lines;
+use text_judge::long_answer;
+use verdicts::Outcome;
 
 /// What `tsotest judge` prints of the recording that the bytes are, and its exit status: 0 where TSO allows it, 2
 /// where not, 3 where the bytes are refused, by N1 to N7; 1 where there is no memory, and then nothing is printed.

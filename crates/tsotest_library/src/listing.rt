@@ -7,8 +7,8 @@ use crate::states::states_refusal;
 use answers::outcomes_answer;
 use common::OutOfMemory;
 use litmus::{LitmusError, line_refusal_name, parse, refusal_line};
-use report::{Answer, Outcome};
 use std::alloc::Global;
+use verdicts::{Answer, Outcome};
 
 /// The outcomes of the program of a text, or the line that refuses the number of states or the text. Fails only if out
 /// of memory.

@@ -12,8 +12,9 @@ use program::Program;
 use program_events::is_program_of;
 use recording::{Recording, RecordingSize};
 use refusals::{N9, refused};
-use report::{Answer, Outcome, read_or_refuse, read_or_refuse_of};
 use std::alloc::Global;
+use text_judge::{read_or_refuse, read_or_refuse_of};
+use verdicts::{Answer, Outcome};
 
 /// The program of a text, of which the recording is one, or what is answered since it is refused. Fails only if out of
 /// memory.

@@ -6,8 +6,8 @@ ghost use Rattle.tsotest_library.specs.Refused.{AreStatesRefused};
 use common::OutOfMemory;
 use program::is_outside;
 use refusals::{K12, refused};
-use report::{Answer, Outcome};
 use std::alloc::Global;
+use verdicts::{Answer, Outcome};
 
 /// The most states that are looked at.
 const MAX_STATES: usize = 4_294_967_295;

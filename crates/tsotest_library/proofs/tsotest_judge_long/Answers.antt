@@ -1,6 +1,6 @@
 use Rattle.std.proofs.Common.{refl}
 use Rattle.verdicts.specs.declared.outcome.Outcome.TheVariants as outcome
-use Rattle.report.specs.Answer.{IsLongAnswerOf}
+use Rattle.text_judge.specs.Answer.{IsLongAnswerOf}
 use Rattle.tsotest_library.proofs.Outcomes.{long_answer_outcome}
 use Rattle.tsotest_library.proofs.Statuses.{put_by, put_0, put_2, put_3}
 use Rattle.tsotest_library.proofs.tsotest_judge_long.Goals as goal

@@ -5,7 +5,7 @@ use Rattle.recording.specs.declared.size.RecordingSize.TheVariants.{Short}
 use Rattle.recording.specs.RecordingLaws.{recording_of_size}
 use Rattle.verdicts.specs.declared.printed.Answer.{Answer}
 use Rattle.verdicts.specs.VerdictText.{IsVerdictText}
-use Rattle.report.specs.Answer.{IsAnswerOf}
+use Rattle.text_judge.specs.Answer.{IsAnswerOf}
 use Rattle.verification.specs.Proof.{EveryVerdictHolds}
 use Rattle.inputs.specs.Inputs.{AreBytesOf, Inputs}
 use Rattle.commands.specs.Judge.{AnswerHolds, IsFileAnswer}

@@ -2,7 +2,7 @@ use Rattle.std.proofs.Common.{inl, Result, Ok, Err, IfOk, sym, subst}
 use Rattle.recording.specs.Execution.{Execution}
 use Rattle.recording.specs.declared.size.RecordingSize.TheVariants.{Long}
 use Rattle.recorder.specs.Reading.{IsReadingOf}
-use Rattle.report.proofs.answering.long_answer.Goals as goal
+use Rattle.text_judge.proofs.answering.long_answer.Goals as goal
 
 -- what follows from both of two facts follows of each value
 both : {A E : Type 0} {P Q R : A → Type 0} (r : Result A E) → ((a : A) → P a → Q a → R a) → IfOk r P → IfOk r Q → IfOk r R

@@ -1,6 +1,5 @@
 -- What is answered to the bytes of a recording.
-use Rattle.std.specs.Prelude.{◌≡◌, ◌⊎◌, ℕ, List, Option, Some, Result, Ok, Err, take}
-use Rattle.std.specs.Io.KnownBytes.{Appends, Consumes}
+use Rattle.std.specs.Prelude.{◌≡◌, ◌⊎◌, ℕ, List, Some, Result, Ok, Err}
 use Rattle.recording.specs.declared.fault.RecError.{RecError}
 use Rattle.recording.specs.declared.recording.Recording.{Recording}
 use Rattle.recording.specs.Execution.{Execution}
@@ -11,7 +10,6 @@ use Rattle.long.specs.declared.answer.LongAnswer.{LongAnswer}
 use Rattle.long.specs.Answer.{IsLongAnswer}
 use Rattle.long.specs.Texts.{IsLongText, long_outcome}
 use Rattle.verdicts.specs.declared.printed.Answer.{Answer}
-use Rattle.verdicts.specs.declared.outcome.Outcome.{Outcome}
 use Rattle.verdicts.specs.declared.outcome.Outcome.TheVariants.{Refused}
 use Rattle.verdicts.specs.Refusal.{recording_line}
 use Rattle.verdicts.specs.declared.verdict.Verdict.{Verdict}
@@ -46,12 +44,3 @@ abbrev pub IsLongAnswerOf : List ℕ → Answer → Type 0
 IsLongAnswerOf bytes answer = ((x : Execution) × IsReadingOf Long bytes (Ok x) × (found : LongAnswer)
     × IsLongAnswer x found × (answer.outcome ≡ long_outcome found)
     × IsLongText x found answer.text.items) ⊎ IsRefusedOf Long bytes answer
-
--- such an answer was written, whole, and this is its outcome
-abbrev pub IsPut : (Answer → Type 0) → Option (List ℕ) → Option (List ℕ) → Outcome → Type 0
-IsPut Is before after outcome = (answer : Answer) × Is answer × (outcome ≡ answer.outcome)
-    × Appends before after answer.text.items
-
--- the first bytes of such an answer were written
-abbrev pub IsBegun : (Answer → Type 0) → Option (List ℕ) → Option (List ℕ) → Type 0
-IsBegun Is before after = (answer : Answer) × Is answer × (n : ℕ) × Appends before after (take n answer.text.items)

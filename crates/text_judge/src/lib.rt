@@ -1,0 +1,6 @@
+//! The answer to the bytes of a recording in memory.
+#![tactic(auto)]
+
+mod answering;
+
+pub use answering::{answer_alone, answer_by, long_answer, read_or_refuse, read_or_refuse_of};
