@@ -4,7 +4,7 @@ use Rattle.std.proofs.lemmas.List.{append-nil}
 use Rattle.ledger.specs.declared.finding.Finding.{Finding}
 use Rattle.surveys.specs.declared.kind.LineKind.{LineKind}
 use Rattle.surveys.specs.Found.{AreFindings, AreFindingsUpTo, AreLineFindings}
-use Rattle.surveys.specs.Lines.{IsSplit, is_some_line, lines}
+use Rattle.surveys.specs.Lines.{IsSplit, IsWhole, is_some_line, lines}
 use Rattle.surveys.proofs.Found.{findings_append}
 use Rattle.surveys.proofs.Shown.{next_line}
 
@@ -29,3 +29,9 @@ next_found kind bytes rest line more old new found is split finds adds = (
   subst (λ (fs : List Finding). AreFindings kind (is.0 ++ filter is_some_line (line ∷ [])) fs) (sym adds)
       (findings_append kind is.0 (filter is_some_line (line ∷ [])) old found is.2 finds),
 )
+
+-- in whole lines and in what comes after them
+pub both_found : (kind : LineKind) (front back : List ℕ) (xs ys : List Finding) → IsWhole front
+    → AreLineFindings kind front xs → AreLineFindings kind back ys → AreLineFindings kind (front ++ back) (xs ++ ys)
+both_found kind front back xs ys whole one other = subst (λ (ls : List (List ℕ)). AreFindings kind ls (xs ++ ys))
+    (sym (whole back)) (findings_append kind (lines front) (lines back) xs ys one other)

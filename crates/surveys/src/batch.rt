@@ -1,9 +1,10 @@
 //! Batches of a block.
 
-ghost use Rattle.std.specs.Prelude.{◌≡◌, IfOk, IsTrue};
+ghost use Rattle.std.specs.Prelude.{◌≡◌, ◌++◌, IfOk, IfSome, IsTrue};
 ghost use Rattle.surveys.specs.Found.{AreLineFindings};
 
 use crate::coded::judge_lines;
+use crate::filling::last_end;
 use crate::kind::LineKind;
 use common::{Gate, OpenGate, OutOfMemory};
 use ledger::Finding;
@@ -72,6 +73,32 @@ impl Batch {
         self.judged = Some(Judged { kind, findings });
     }
 
+    /// A batch of the lines of both, in order, which is judged where both are. Where memory runs out it lacks lines.
+    pub(crate) fn joined(self, more: Batch) -> Batch {
+        let Batch {
+            mut bytes,
+            first,
+            recordings,
+            judged,
+        } = self;
+        let Batch {
+            bytes: after,
+            first: _,
+            recordings: count,
+            judged: other,
+        } = more;
+        let judged = both_judged(&bytes, judged, &after, other);
+        let Ok(()) = bytes.extend_from_slice(&after) else {
+            return Batch::new(bytes, first, recordings);
+        };
+        Batch {
+            bytes,
+            first,
+            recordings: recordings.wrapping_add(count),
+            judged,
+        }
+    }
+
     /// What is found in the lines, which are judged here where they are not. Fails only if out of memory.
     pub(crate) fn into_findings(
         self,
@@ -91,6 +118,35 @@ impl Batch {
             _ => judge_lines(alloc, kind, &bytes, 0, &OpenGate, 0),
         }
     }
+}
+
+/// What is found in lines and in more lines after them; none where one of them is not judged, where their kinds differ,
+/// where the first ones do not end with an end of a line, or where memory runs out.
+fn both_judged(
+    front: &[u8],
+    one: Option<Judged>,
+    back: &[u8],
+    other: Option<Judged>,
+) -> Option<Judged>
+    requires { IfSome one (λ j. AreLineFindings j.kind front.now j.findings.items)
+        × IfSome other (λ j. AreLineFindings j.kind back.now j.findings.items) }
+    ensures { IfSome result (λ j. AreLineFindings j.kind (front.now ++ back.now) j.findings.items) }
+{
+    if last_end(front, 0) != front.len() {
+        return None;
+    }
+    let Judged { kind, mut findings } = one?;
+    let Judged {
+        kind: of,
+        findings: more,
+    } = other?;
+    if !is_same(of, kind) {
+        return None;
+    }
+    let Ok(()) = findings.extend_from_slice(&more) else {
+        return None;
+    };
+    Some(Judged { kind, findings })
 }
 
 /// Whether two kinds are the same.

@@ -61,13 +61,28 @@ impl<R: Wait, G: Gate> Engine<'_, R, G> {
         }
     }
 
+    /// A judged batch and those after it that are judged, as one where each recording is reported, so that all their lines
+    /// are written at once.
+    fn joined(&self, mut batch: Batch) -> Batch {
+        for _ in 0..REPORTED_AT_ONCE {
+            if !self.each {
+                break;
+            }
+            let Some(more) = self.queue.collect(self.rt) else {
+                break;
+            };
+            batch = batch.joined(more);
+        }
+        batch
+    }
+
     /// The oldest batch, judged; none where no more than this many bytes lie on the queue, or after 2^64 - 1 turns. The
     /// calling thread judges those that wait as worker 0 where it would have to wait itself.
     pub(crate) fn collect(&self, kept: usize) -> Option<Batch> {
         for _ in 0..u64::MAX {
             match self.queue.turn(self.rt, kept) {
                 Turn::Over => return None,
-                Turn::Collected(batch) => return Some(batch),
+                Turn::Collected(batch) => return Some(self.joined(batch)),
                 Turn::Judge(at, batch) => self.judge(at, batch, 0),
             }
         }

@@ -13,10 +13,14 @@ use memchr::memrchr;
 /// How many bytes are asked for at once.
 pub(crate) const CHUNK: usize = 65_536;
 
-/// How many bytes a block has at least, but for the last one.
+/// How many bytes a block is filled up to at most; one that has as many or more takes a chunk.
 pub(crate) const BLOCK: usize = 4_194_304;
 
-/// Fills up a block, or, where it is to be prompt, takes what there is; false where the source has ended.
+/// How many bytes a block is filled up to at least, unless it takes what there is.
+const LEAST: usize = 2 * CHUNK;
+
+/// Fills up a block to twice what it has, or, where it is to be prompt, takes what there is, until a chunk is not full;
+/// false where the source has ended.
 pub(crate) fn fill<R: Source>(
     source: &mut R,
     chunk: &mut [u8],
@@ -34,12 +38,13 @@ pub(crate) fn fill<R: Source>(
     ensures short { IfErr result (λ e. IsLong e 0) }
     ensures writes { IfErr result (λ e. is_write_failure e ≡ false) }
 {
+    let size = block.len().saturating_mul(2).max(LEAST).min(BLOCK);
     let first = read_more(source, chunk, block)?;
     if first == 0 {
         return Ok(false);
     }
     let mut is_full = first == chunk.len();
-    'chunks: while block.len() < BLOCK && (is_full || !prompt) {
+    'chunks: while block.len() < size && (is_full || !prompt) {
         let next = read_more(source, chunk, block)?;
         if next == 0 {
             return Ok(false);

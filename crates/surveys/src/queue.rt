@@ -118,17 +118,14 @@ impl Slots {
         }
     }
 
-    /// Whether there is room for this many recordings more.
-    fn has_room(&self, recordings: usize) -> bool {
+    /// How many bytes lie here, and for how many recordings there is room.
+    fn held(&self) -> (usize, usize) {
         let waiting = self.recordings.wrapping_sub(self.collected);
-        recordings <= self.room.saturating_sub(waiting)
+        (self.bytes, self.room.saturating_sub(waiting))
     }
 
-    /// Puts a batch with this many recordings; false where there is no room for them, or all slots are used.
+    /// Puts a batch with this many recordings; false where all slots are used.
     fn put(&mut self, bytes: Vec<u8>, recordings: usize) -> bool {
-        if !self.has_room(recordings) {
-            return false;
-        }
         let at = self.next_put;
         let length = bytes.len();
         let batch = Batch::new(bytes, self.recordings, recordings);
@@ -249,7 +246,7 @@ impl WorkQueue {
         })
     }
 
-    /// Puts a batch with this many recordings; false where there is no room or memory runs out.
+    /// Puts a batch with this many recordings; false where all slots are used or memory runs out.
     fn put<R: Wait>(&self, rt: &R, alloc: Global, bytes: &[u8], recordings: usize) -> bool {
         let mut copy = Vec::new(alloc);
         let Ok(()) = copy.extend_from_slice(bytes) else {
@@ -263,16 +260,22 @@ impl WorkQueue {
     /// Puts these lines, of which those that lie here are the first, in batches of at most this many recordings; false
     /// where there is no more room or memory runs out before.
     pub(crate) fn offer<R: Wait>(&self, rt: &R, alloc: Global, lines: &[u8], most: usize) -> bool {
-        let from = self.slots.lock(rt).bytes.min(lines.len());
-        let mut rest = &lines[from..];
+        let (from, mut room) = self.slots.lock(rt).held();
+        let mut rest = &lines[from.min(lines.len())..];
         'batches: while !rest.is_empty() {
             let (end, recordings) = first_lines(rest, most);
-            if !self.put(rt, alloc, &rest[..end], recordings) {
+            if recordings > room || !self.put(rt, alloc, &rest[..end], recordings) {
                 return false;
             }
+            room = room.saturating_sub(recordings);
             rest = &rest[end..];
         }
         true
+    }
+
+    /// Takes the oldest batch away if it is judged.
+    pub(crate) fn collect<R: Wait>(&self, rt: &R) -> Option<Batch> {
+        self.slots.lock(rt).collect()
     }
 
     /// Puts a judged batch back to where it lay.

@@ -27,7 +27,7 @@ use std::mem;
 use std::sync::Wait;
 use std::thread::Threads;
 
-/// How many bytes stay on the queue while the next ones are read, unless each recording is reported.
+/// How many bytes stay on the queue at most while the next ones are read.
 const KEPT: usize = BLOCK / 2;
 
 /// Counts the lines of all that a source gives, block by block.
@@ -51,10 +51,11 @@ fn count_blocks<T: Wait, R: Source, W: Sink, G: Gate>(
     ensures writes { FailsBy is_write_failure (W.write_failed sink.old) (W.write_failed sink.new) result }
     ensures silent { engine.now.each ≢ true → sink.new ≡ sink.old }
 {
-    let kept = if engine.each { 0 } else { KEPT };
     let mut seen = 0;
     'filled: while fill(source, chunk, block, engine.each)? {
-        engine.count_offered(sink, counted, block, seen, kept)?;
+        // After a chunk that is not full the next read may wait, and what is reported does not wait for it.
+        let waits = engine.each && block.len().wrapping_sub(seen) % CHUNK != 0;
+        engine.count_offered(sink, counted, block, seen, if waits { 0 } else { KEPT })?;
         seen = block.len();
     }
     engine.count_offered(sink, counted, block, seen, 0)?;
