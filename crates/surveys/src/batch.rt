@@ -73,7 +73,15 @@ impl Batch {
         self.judged = Some(Judged { kind, findings });
     }
 
-    /// A batch of the lines of both, in order, which is judged where both are. Where memory runs out it lacks lines.
+    /// Makes room for this many bytes more; false where memory runs out.
+    pub(crate) fn make_room(&mut self, more: usize) -> bool
+        ensures { self.new ≡ self.old }
+    {
+        self.bytes.reserve(more).is_ok()
+    }
+
+    /// A batch of the lines of both, in order, which is judged where both are. Where memory runs out before there is room
+    /// for the second ones it lacks them.
     pub(crate) fn joined(self, more: Batch) -> Batch {
         let Batch {
             mut bytes,

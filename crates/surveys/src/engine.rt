@@ -61,11 +61,19 @@ impl<R: Wait, G: Gate> Engine<'_, R, G> {
         }
     }
 
+    /// Whether the oldest batch on the queue is judged, and there is room for its lines in this one.
+    fn has_room(&self, batch: &mut Batch) -> bool {
+        match self.queue.judged_length(self.rt) {
+            Some(length) => batch.make_room(length),
+            None => false,
+        }
+    }
+
     /// A judged batch and those after it that are judged, as one where each recording is reported, so that all their lines
     /// are written at once.
     fn joined(&self, mut batch: Batch) -> Batch {
         for _ in 0..REPORTED_AT_ONCE {
-            if !self.each {
+            if !self.each || !self.has_room(&mut batch) {
                 break;
             }
             let Some(more) = self.queue.collect(self.rt) else {

@@ -159,6 +159,14 @@ impl Slots {
         }
     }
 
+    /// How many bytes the oldest batch has, if it is judged.
+    fn judged_length(&self) -> Option<usize> {
+        match self.slots.get(self.oldest) {
+            Some(Slot::Judged(batch)) => Some(batch.bytes().len()),
+            _ => None,
+        }
+    }
+
     /// Takes the oldest batch away if it is judged.
     fn collect(&mut self) -> Option<Batch> {
         let at = self.oldest;
@@ -271,6 +279,11 @@ impl WorkQueue {
             rest = &rest[end..];
         }
         true
+    }
+
+    /// How many bytes the oldest batch has, if it is judged.
+    pub(crate) fn judged_length<R: Wait>(&self, rt: &R) -> Option<usize> {
+        self.slots.lock(rt).judged_length()
     }
 
     /// Takes the oldest batch away if it is judged.
