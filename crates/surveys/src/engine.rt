@@ -69,8 +69,8 @@ impl<R: Wait, G: Gate> Engine<'_, R, G> {
         }
     }
 
-    /// A judged batch and those after it that are judged, as one where each recording is reported, so that all their lines
-    /// are written at once.
+    /// A judged batch and those after it that are judged, as one where each recording is reported, so that all their
+    /// lines are written at once.
     fn joined(&self, mut batch: Batch) -> Batch {
         for _ in 0..REPORTED_AT_ONCE {
             if !self.each || !self.has_room(&mut batch) {
