@@ -20,17 +20,12 @@ pub(crate) struct Linked {
     pub(crate) list: Vec<(EventId, EventId)>,
 }
 
-/// The source of an event; the event itself where it has none.
-fn source_or_self(places: &Places<'_>, event: EventId) -> EventId
+/// The source of an event; none where it has none.
+fn source_of(places: &Places<'_>, event: EventId) -> Option<EventId>
     requires { event < event_count places.now }
-    ensures source { (d : ℕ) → source_of places.now event ≡ Some d → result ≡ d }
-    ensures own { (result ≡ event) ⊎ (source_of places.now event ≡ Some result) }
+    ensures { result ≡ source_of places.now event }
 {
-    let placed = places.event(event as usize);
-    match placed.source {
-        Some(source) => source,
-        None => event,
-    }
+    places.event(event as usize).source
 }
 
 /// The write after an event in its write list, if it writes and there is one.
@@ -89,6 +84,14 @@ fn is_earlier(start: EventId, first: EventId, second: EventId) -> bool
     start <= first && first < second
 }
 
+/// Whether memory order keeps an event before a later one of its core.
+fn is_kept(places: &Places<'_>, first: EventId, second: EventId) -> bool
+    requires { ProgramOrder places.now first second }
+    ensures { IsTrue result ↔ Forced places.now first second }
+{
+    !(places.event(first as usize).is_store && places.event(second as usize).is_load)
+}
+
 /// An event, or the last one where it is passed over.
 fn last_of(is_passed: bool, last: EventId, event: EventId) -> EventId
     ensures { result ≡ cond is_passed last event }
@@ -97,8 +100,8 @@ fn last_of(is_passed: bool, last: EventId, event: EventId) -> EventId
 }
 
 impl Linked {
-    ghost use Rattle.std.specs.Prelude.{◌≡◌, ◌≤◌, ◌<◌, ◌+◌, ℕ, [], true, false, IfOk, IsTrue, OnOk, length};
-    ghost use Rattle.recording.specs.Execution.{event_count};
+    ghost use Rattle.std.specs.Prelude.{◌≡◌, ◌≤◌, ◌<◌, ◌+◌, ℕ, [], Some, true, false, IfOk, IsTrue, OnOk, length};
+    ghost use Rattle.recording.specs.Execution.{event_count, source_of};
     ghost use Rattle.relations.specs.Direct.{IsFirstNewer, IsNextWrite};
     ghost use Rattle.relations.specs.Forced.{Forced, IsCoreStart};
     ghost use Rattle.long.specs.Rows.{times_listed};
@@ -136,6 +139,61 @@ impl Linked {
         Ok(())
     }
 
+    /// Puts the pair of an event and one that is earlier on its core, if memory order keeps it; any other pair as
+    /// `put_forced` does.
+    fn put_earlier(
+        &mut self,
+        places: &Places<'_>,
+        first: EventId,
+        second: EventId,
+        start: EventId,
+    ) -> Result<(), OutOfMemory>
+        requires second { second < event_count places.now }
+        requires start { IsCoreStart places.now start second }
+        requires linked { IsLinked places.now self.old }
+        ensures few { OnOk result (length self.new.list.items ≤ length self.old.list.items + 1) }
+        ensures linked { OnOk result (IsLinked places.now self.new) }
+        ensures kept { OnOk result (KeepsPairs self.old self.new) }
+        ensures here { OnOk result (Forced places.now first second
+            → 0 < times_listed self.new.list.items first second) }
+    {
+        places.sound();
+        if !is_earlier(start, first, second) {
+            return self.put_forced(places, first, second, false);
+        }
+        if is_kept(places, first, second) {
+            self.put_forced(places, first, second, true)
+        } else {
+            Ok(())
+        }
+    }
+
+    /// Puts the pair of an event and its source, if it has one and it is forced. The first event of its core is given.
+    fn put_source(
+        &mut self,
+        places: &Places<'_>,
+        event: EventId,
+        start: EventId,
+    ) -> Result<(), OutOfMemory>
+        requires event { event < event_count places.now }
+        requires start { IsCoreStart places.now start event }
+        requires linked { IsLinked places.now self.old }
+        ensures few { OnOk result (length self.new.list.items ≤ length self.old.list.items + 1) }
+        ensures linked { OnOk result (IsLinked places.now self.new) }
+        ensures kept { OnOk result (KeepsPairs self.old self.new) }
+        ensures source { OnOk result ((d : ℕ) → source_of places.now event ≡ Some d → Forced places.now d event
+            → 0 < times_listed self.new.list.items d event) }
+    {
+        places.sound();
+        let Some(source) = source_of(places, event) else {
+            return Ok(());
+        };
+        if is_earlier(start, source, event) {
+            return self.put_earlier(places, source, event, start);
+        }
+        self.put_forced(places, source, event, true)
+    }
+
     /// Puts the forced pairs of which an event is the second, but for those of writes that it is next to and of reads
     /// that it is newer for. Given are the first event of its core, and the last before it that is no plain load, and
     /// no plain store, where there are such.
@@ -159,12 +217,12 @@ impl Linked {
             → 0 < times_listed self.new.list.items d event) }
     {
         places.sound();
-        self.put_forced(places, nonload, event, false)?;
-        self.put_forced(places, nonstore, event, false)?;
-        let source = source_or_self(places, event);
-        let is_read_from = source != event && !is_earlier(start, source, event);
-        self.put_forced(places, source, event, is_read_from)?;
-        Ok(())
+        self.put_earlier(places, nonload, event, start)?;
+        if nonstore == nonload {
+            return self.put_source(places, event, start);
+        }
+        self.put_earlier(places, nonstore, event, start)?;
+        self.put_source(places, event, start)
     }
 
     /// Puts the pair of an event and the write after it in its write list, if there is one.
