@@ -1,14 +1,13 @@
 -- How often events wait, before any is placed, as more rows are counted.
 use Rattle.std.proofs.Common.{◌≡◌, ◌<◌, ◌≤◌, ◌+◌, ◌-◌, ◌==◌, inl, inr, ℕ, zero, suc, cond, List, [], ◌∷◌, get_or}
 use Rattle.std.proofs.Common.{take, drop}
-use Rattle.std.proofs.Common.{slice_range, length, replicate, arith, refl, ap, ◌∙◌}
+use Rattle.std.proofs.Common.{length, replicate, arith, refl, ap, ◌∙◌}
 use Rattle.std.proofs.lemmas.Bool.{cases_eq, cases_lt}
 use Rattle.std.proofs.lemmas.List.{get_or-replicate, get_or_past, length-replicate}
 use Rattle.recording.specs.Order.{times}
 use Rattle.recording.specs.OrderLaws.{times_here, times_there, times_nil}
 use Rattle.order.specs.Open.{waits, IsOpen}
-use Rattle.order.proofs.Waits.{waits_zero}
-use Rattle.long.specs.Rows.{Rows, AreRows, times_kept}
+use Rattle.long.specs.Rows.{Rows, times_kept}
 
 -- zeros are 0
 pub zeros : (n e : ℕ) → get_or (replicate {A = ℕ} n 0) e 0 ≡ 0

@@ -1,5 +1,5 @@
 -- Rows that are filled from the end of a list of pairs.
-use Rattle.std.proofs.Common.{◌≡◌, ◌≢◌, ◌<◌, ◌≤◌, ◌+◌, ◌-◌, ◌⊎◌, inl, inr, ℕ, zero, suc, List, [], ◌∷◌, get_or, set}
+use Rattle.std.proofs.Common.{◌≡◌, ◌<◌, ◌≤◌, ◌+◌, ◌-◌, ◌⊎◌, inl, inr, ℕ, zero, suc, List, [], ◌∷◌, get_or, set}
 use Rattle.std.proofs.Common.{take}
 use Rattle.std.proofs.Common.{drop, slice_range, length, arith, refl, sym, ap, subst, ◌∙◌, length-set}
 use Rattle.std.proofs.Common.{get_or-set_same, get_or-set_other}

@@ -2,7 +2,8 @@
 
 ghost use Rattle.std.specs.Prelude.{◌≡◌, ◌≤◌, ◌<◌, ◌+◌, ◌*◌, ◌↔◌, ◌⊎◌, ℕ, Some, Bool, cond, IfOk, IsTrue, MatchOption};
 ghost use Rattle.std.specs.Prelude.{length};
-ghost use Rattle.recording.specs.Execution.{Execution, event_count, source_of, ProgramOrder};
+ghost use Rattle.recording.specs.Event.{is_plain_store};
+ghost use Rattle.recording.specs.Execution.{Execution, event_at, event_count, source_of, ProgramOrder};
 ghost use Rattle.relations.specs.Direct.{IsFirstNewer, IsNextWrite};
 ghost use Rattle.relations.specs.Forced.{Forced, IsCoreStart};
 ghost use Rattle.long.specs.Rows.{times_kept, times_listed};
@@ -92,6 +93,16 @@ fn is_kept(places: &Places<'_>, first: EventId, second: EventId) -> bool
     !(places.event(first as usize).is_store && places.event(second as usize).is_load)
 }
 
+/// Whether an event is a plain store.
+fn is_store(places: &Places<'_>, number: EventId) -> bool
+    ensures { number < event_count places.now → result ≡ is_plain_store (event_at places.now number) }
+{
+    if number as usize >= places.len() {
+        return false;
+    }
+    places.event(number as usize).is_store
+}
+
 /// An event, or the last one where it is passed over.
 fn last_of(is_passed: bool, last: EventId, event: EventId) -> EventId
     ensures { result ≡ cond is_passed last event }
@@ -101,18 +112,19 @@ fn last_of(is_passed: bool, last: EventId, event: EventId) -> EventId
 
 impl Linked {
     ghost use Rattle.std.specs.Prelude.{◌≡◌, ◌≤◌, ◌<◌, ◌+◌, ℕ, [], Some, true, false, IfOk, IsTrue, OnOk, length};
-    ghost use Rattle.recording.specs.Execution.{event_count, source_of};
+    ghost use Rattle.recording.specs.Event.{is_plain_store};
+    ghost use Rattle.recording.specs.Execution.{event_at, event_count, source_of};
     ghost use Rattle.relations.specs.Direct.{IsFirstNewer, IsNextWrite};
     ghost use Rattle.relations.specs.Forced.{Forced, IsCoreStart};
     ghost use Rattle.long.specs.Rows.{times_listed};
     ghost use Rattle.long.specs.Linked.{IsLinked, IsRightBefore, KeepsPairs};
     ghost use Rattle.long.specs.Steps.{IsLast};
 
-    /// No pair, with room for four of each of these events.
+    /// No pair, with room for three of each of these events.
     fn none(alloc: Global, count: usize) -> Result<Linked, OutOfMemory>
         ensures { IfOk result (λ l. l.list.items ≡ []) }
     {
-        let list = Vec::with_capacity(alloc, count.saturating_mul(4))?;
+        let list = Vec::with_capacity(alloc, count.saturating_mul(3))?;
         Ok(Linked { list })
     }
 
@@ -168,6 +180,30 @@ impl Linked {
         }
     }
 
+    /// Does what `put_earlier` does, where the first event is a plain store.
+    fn put_store(
+        &mut self,
+        places: &Places<'_>,
+        first: EventId,
+        second: EventId,
+        start: EventId,
+    ) -> Result<(), OutOfMemory>
+        requires second { second < event_count places.now }
+        requires start { IsCoreStart places.now start second }
+        requires linked { IsLinked places.now self.old }
+        ensures few { OnOk result (length self.new.list.items ≤ length self.old.list.items + 1) }
+        ensures linked { OnOk result (IsLinked places.now self.new) }
+        ensures kept { OnOk result (KeepsPairs self.old self.new) }
+        ensures here { OnOk result (is_plain_store (event_at places.now first) ≡ true → Forced places.now first second
+            → 0 < times_listed self.new.list.items first second) }
+    {
+        places.sound();
+        if !is_store(places, first) {
+            return Ok(());
+        }
+        self.put_earlier(places, first, second, start)
+    }
+
     /// Puts the pair of an event and its source, if it has one and it is forced. The first event of its core is given.
     fn put_source(
         &mut self,
@@ -217,12 +253,10 @@ impl Linked {
             → 0 < times_listed self.new.list.items d event) }
     {
         places.sound();
-        self.put_earlier(places, nonload, event, start)?;
-        if nonstore == nonload {
-            return self.put_source(places, event, start);
-        }
+        self.put_store(places, nonload, event, start)?;
         self.put_earlier(places, nonstore, event, start)?;
-        self.put_source(places, event, start)
+        self.put_source(places, event, start)?;
+        Ok(())
     }
 
     /// Puts the pair of an event and the write after it in its write list, if there is one.
