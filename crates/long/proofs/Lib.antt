@@ -14,3 +14,4 @@ pub mod Listed
 pub mod Counted
 pub mod Rests
 pub mod Filled
+pub mod Waited

@@ -265,6 +265,12 @@ pub back_first : (xs : List (ℕ × ℕ)) (i n : ℕ) → i < length xs → Have
 back_first xs i n low firsts = firsts (get_or xs (length xs - 1 - i) (0, 0)).0
     (get_or xs (length xs - 1 - i) (0, 0)).1 (listed_at xs (length xs - 1 - i) (omega (arith, low)))
 
+-- and its second one, as all are
+pub back_second : (xs : List (ℕ × ℕ)) (i n : ℕ) → i < length xs → ((e f : ℕ) → 0 < times_listed xs e f → f < n)
+    → (get_or xs (length xs - 1 - i) (0, 0)).1 < n
+back_second xs i n low seconds = seconds (get_or xs (length xs - 1 - i) (0, 0)).0
+    (get_or xs (length xs - 1 - i) (0, 0)).1 (listed_at xs (length xs - 1 - i) (omega (arith, low)))
+
 -- none at first
 pub back_none : (xs : List (ℕ × ℕ)) (e : ℕ) → seconds_in (drop (length xs - 0) xs) e ≡ []
 back_none xs e =

@@ -1,9 +1,10 @@
 //! The forced pairs from which all others follow.
 
 ghost use Rattle.std.specs.Prelude.{◌≡◌, ◌≤◌, ◌<◌, ◌+◌, ◌*◌, ◌↔◌, ◌⊎◌, ℕ, Some, Bool, cond, IfOk, IsTrue, MatchOption};
-ghost use Rattle.std.specs.Prelude.{length};
+ghost use Rattle.std.specs.Prelude.{[], length};
 ghost use Rattle.recording.specs.Event.{is_plain_store};
 ghost use Rattle.recording.specs.Execution.{Execution, event_at, event_count, source_of, ProgramOrder};
+ghost use Rattle.order.specs.Open.{IsOpen};
 ghost use Rattle.relations.specs.Direct.{IsFirstNewer, IsNextWrite};
 ghost use Rattle.relations.specs.Forced.{Forced, IsCoreStart};
 ghost use Rattle.long.specs.Rows.{times_kept, times_listed};
@@ -330,12 +331,17 @@ pub(crate) fn link_all(alloc: Global, places: &Places<'_>) -> Result<Linked, Out
     Ok(linked)
 }
 
-/// These pairs, with the second events of each first one side by side.
-pub(crate) fn link_rows(alloc: Global, places: &Places<'_>) -> Result<Pairs, OutOfMemory>
-    ensures size { IfOk result (λ p. length p.starts ≡ event_count places.now + 1) }
-    ensures few { IfOk result (λ p. length p.items ≤ 5 * event_count places.now) }
-    ensures forced { IfOk result (λ p. (d e : ℕ) → 0 < times_kept p d e → Forced places.now d e) }
-    ensures enough { IfOk result (λ p. (d e : ℕ) → IsStep places.now d e → 0 < times_kept p d e) }
+/// These pairs, with the second events of each first one side by side, and for each event one more than how often it is
+/// the second of a pair.
+pub(crate) fn link_rows(
+    alloc: Global,
+    places: &Places<'_>,
+) -> Result<(Pairs, Vec<u32>), OutOfMemory>
+    ensures size { IfOk result (λ r. length r.0.starts ≡ event_count places.now + 1) }
+    ensures few { IfOk result (λ r. length r.0.items ≤ 5 * event_count places.now) }
+    ensures forced { IfOk result (λ r. (d e : ℕ) → 0 < times_kept r.0 d e → Forced places.now d e) }
+    ensures enough { IfOk result (λ r. (d e : ℕ) → IsStep places.now d e → 0 < times_kept r.0 d e) }
+    ensures open { IfOk result (λ r. IsOpen (times_kept r.0) (event_count places.now) [] r.1.items) }
 {
     places.sound();
     let linked = link_all(alloc, places)?;

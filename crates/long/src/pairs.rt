@@ -1,8 +1,8 @@
 //! Pairs of events, with the second events of each first one side by side.
 
-ghost use Rattle.std.specs.Prelude.{◌≡◌, ◌<◌, ◌+◌, ◌^◌, ℕ, IfOk, length, slice_index, slice_range};
-ghost use Rattle.recording.specs.Order.{times};
-ghost use Rattle.long.specs.Rows.{listed_below, seconds_in, sum_below, HaveFirstsBelow};
+ghost use Rattle.std.specs.Prelude.{◌≡◌, ◌<◌, ◌+◌, ◌^◌, ℕ, [], IfOk, length, slice_index, slice_range};
+ghost use Rattle.order.specs.Open.{IsOpen};
+ghost use Rattle.long.specs.Rows.{listed_below, seconds_in, sum_below, times_listed, HaveFirstsBelow};
 
 use common::{EventId, OutOfMemory};
 use std::alloc::Global;
@@ -27,24 +27,29 @@ impl Model for Pairs {
     ghost invariant = { λ p. AreRows (record { starts = p.starts.items; items = p.items.items }) };
 }
 
-/// For each event below a count how many pairs of a list have it as their first one, and a 0.
-fn count_firsts(
+/// For each event below a count how many pairs of a list have it as their first one, and a 0; and one more than how many
+/// have it as their second one.
+fn count_pairs(
     alloc: Global,
     list: &[(EventId, EventId)],
     count: usize,
-) -> Result<Vec<u32>, OutOfMemory>
-    requires few { length list.now < 2 ^ 32 }
+) -> Result<(Vec<u32>, Vec<u32>), OutOfMemory>
+    requires few { length list.now + 1 < 2 ^ 32 }
     requires count { count < 2 ^ 32 }
     requires firsts { HaveFirstsBelow list.now count }
-    ensures size { IfOk result (λ counts. length counts.items ≡ count + 1) }
-    ensures each { IfOk result (λ counts. (e : ℕ) → slice_index counts.items e ≡ length (seconds_in list.now e)) }
+    requires seconds { (e f : ℕ) → 0 < times_listed list.now e f → f < count }
+    ensures size { IfOk result (λ r. length r.0.items ≡ count + 1) }
+    ensures each { IfOk result (λ r. (e : ℕ) → slice_index r.0.items e ≡ length (seconds_in list.now e)) }
+    ensures open { IfOk result (λ r. IsOpen (times_listed list.now) count [] r.1.items) }
 {
-    let mut counts = vec![in alloc; 0; count + 1]?;
+    let mut firsts = vec![in alloc; 0; count + 1]?;
+    let mut counts = vec![in alloc; 1; count]?;
     for i in 0..list.len() {
-        let (first, _) = list[list.len() - 1 - i];
-        counts[first as usize] += 1;
+        let (first, second) = list[list.len() - 1 - i];
+        firsts[first as usize] += 1;
+        counts[second as usize] += 1;
     }
-    Ok(counts)
+    Ok((firsts, counts))
 }
 
 /// Adds to each number all those before it.
@@ -85,40 +90,31 @@ fn fill(
     Ok(items)
 }
 
-/// Adds 1 for each event of a row.
-fn count_row(row: &[EventId], counts: &mut [u32])
-    requires within { (f : ℕ) → 0 < times row.now f → f < length counts.old }
-    requires few { (f : ℕ) → slice_index counts.old f + times row.now f < 2 ^ 32 }
-    ensures size { length counts.new ≡ length counts.old }
-    ensures more { (f : ℕ) → slice_index counts.new f ≡ slice_index counts.old f + times row.now f }
-{
-    for place in 0..row.len() {
-        counts[row[place] as usize] += 1;
-    }
-}
-
 impl Pairs {
-    ghost use Rattle.std.specs.Prelude.{◌≡◌, ◌<◌, ◌+◌, ◌-◌, ◌^◌, ℕ, [], IfOk, length};
+    ghost use Rattle.std.specs.Prelude.{◌≡◌, ◌<◌, ◌+◌, ◌^◌, ℕ, [], IfOk, length};
     ghost use Rattle.order.specs.Open.{IsOpen};
-    ghost use Rattle.long.specs.Rows.{seconds, seconds_in, times_kept, HaveFirstsBelow};
+    ghost use Rattle.long.specs.Rows.{seconds, seconds_in, times_listed, HaveFirstsBelow};
 
-    /// The pairs of a list, whose first events are below a count.
+    /// The pairs of a list, whose events are below a count, and for each of these one more than how often it is the
+    /// second of a pair.
     pub(crate) fn of(
         alloc: Global,
         list: &[(EventId, EventId)],
         count: usize,
-    ) -> Result<Pairs, OutOfMemory>
-        requires few { length list.now < 2 ^ 32 }
+    ) -> Result<(Pairs, Vec<u32>), OutOfMemory>
+        requires few { length list.now + 1 < 2 ^ 32 }
         requires count { count < 2 ^ 32 }
         requires firsts { HaveFirstsBelow list.now count }
-        ensures size { IfOk result (λ p. length p.starts ≡ count + 1) }
-        ensures few { IfOk result (λ p. length p.items ≡ length list.now) }
-        ensures rows { IfOk result (λ p. (e : ℕ) → seconds p e ≡ seconds_in list.now e) }
+        requires seconds { (e f : ℕ) → 0 < times_listed list.now e f → f < count }
+        ensures size { IfOk result (λ r. length r.0.starts ≡ count + 1) }
+        ensures few { IfOk result (λ r. length r.0.items ≡ length list.now) }
+        ensures rows { IfOk result (λ r. (e : ℕ) → seconds r.0 e ≡ seconds_in list.now e) }
+        ensures open { IfOk result (λ r. IsOpen (times_listed list.now) count [] r.1.items) }
     {
-        let mut starts = count_firsts(alloc, list, count)?;
+        let (mut starts, counts) = count_pairs(alloc, list, count)?;
         sum_up(&mut starts);
         let items = fill(alloc, list, &mut starts)?;
-        Ok(Pairs { starts, items })
+        Ok((Pairs { starts, items }, counts))
     }
 
     /// The second events of the pairs of an event.
@@ -131,22 +127,5 @@ impl Pairs {
         } else {
             &self.items[0..0]
         }
-    }
-
-    /// For each first event one more than how often it is the second of a pair.
-    pub(crate) fn counts(&self, alloc: Global) -> Result<Vec<u32>, OutOfMemory>
-        requires some { 0 < length self.now.starts }
-        requires count { length self.now.starts < 2 ^ 32 }
-        requires few { length self.now.items + 1 < 2 ^ 32 }
-        requires within { (d f : ℕ) → 0 < times_kept self.now d f → f + 1 < length self.now.starts }
-        ensures { IfOk result (λ counts.
-            IsOpen (times_kept self.now) (length self.now.starts - 1) [] counts.items) }
-    {
-        let count = self.starts.len() - 1;
-        let mut counts = vec![in alloc; 1; count]?;
-        for event in 0..count {
-            count_row(self.seconds(event as EventId), &mut counts);
-        }
-        Ok(counts)
     }
 }

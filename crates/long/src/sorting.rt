@@ -33,8 +33,7 @@ pub(crate) fn sort(alloc: Global, places: &Places<'_>) -> Result<Sorted, OutOfMe
     ensures { IfOk result (λ sorted. HasNoOverlook places.now → IsSorted places.now sorted) }
 {
     places.sound();
-    let pairs = link_rows(alloc, places)?;
-    let counts = pairs.counts(alloc)?;
+    let (pairs, counts) = link_rows(alloc, places)?;
     let mut waiting = Waiting::of(alloc, counts)?;
     let mut order = Vec::with_capacity(alloc, places.len())?;
     for placed in 0..places.len() {

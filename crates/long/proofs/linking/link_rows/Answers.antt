@@ -11,3 +11,11 @@ of-requires-clause-firsts c = λ e f some.
     subst (λ (l : List (ℕ × ℕ)). 0 < times_listed l e f) c.deref.ensures.value some in
     let forced : Forced x e f = c.in_ok-linked.ensures.linked e f put in
     omega (arith, c.len.ensures, (forced_within x c.sound.ensures.well_formed forced.0 e f forced.1).0)
+
+pub of-requires-clause-seconds : goal.of-requires-clause-seconds
+of-requires-clause-seconds c = λ e f some.
+    let x = c.args.places.now in
+    let put : 0 < times_listed c.in_ok-linked.linked.list.items e f =
+    subst (λ (l : List (ℕ × ℕ)). 0 < times_listed l e f) c.deref.ensures.value some in
+    let forced : Forced x e f = c.in_ok-linked.ensures.linked e f put in
+    omega (arith, c.len.ensures, (forced_within x c.sound.ensures.well_formed forced.0 e f forced.1).1)

@@ -13,8 +13,6 @@ pub loop-placed-init : goal.loop-placed-init
 loop-placed-init c =
     let n : ℕ = event_count c.args.places.now in
     let p = c.in_ok-pairs.pairs in
-    let counts : List ℕ = c.in_ok-counts.counts.items in
-    let size : length p.starts - 1 ≡ n = omega (arith, c.in_ok-pairs.ensures.size) in
     let none : c.in_ok-order.order.items ≡ [] = c.in_ok-order.ensures.items in
     record {
       size = ap (λ (l : List ℕ). length l) none;
@@ -23,16 +21,8 @@ loop-placed-init c =
       greedy = subst (λ (l : List ℕ). IsGreedy (times_kept p) n l) (sym none) (greedy_none (times_kept p) n);
       waiting = subst (λ (l : List ℕ). IsOpen (times_kept p) n l c.in_ok-waiting.waiting) (sym none)
           (subst (λ (l : List ℕ). IsOpen (times_kept p) n [] l) (sym c.in_ok-waiting.ensures)
-          (subst (λ (k : ℕ). IsOpen (times_kept p) k [] counts) size c.in_ok-counts.ensures));
+          c.in_ok-pairs.ensures.open);
     }
-
-pub counts-requires-clause-within : goal.counts-requires-clause-within
-counts-requires-clause-within c = λ d f some. omega (
-  arith,
-  (pairs_within c.args.places.now c.sound.ensures.well_formed c.in_ok-pairs.pairs c.in_ok-pairs.ensures.forced d f
-      some).1,
-  c.in_ok-pairs.ensures.size,
-)
 
 pub returns-in_default : goal.returns-in_default
 returns-in_default c = λ _. subst (λ (l : List ℕ). IsLeft c.args.places.now (record {
