@@ -27,8 +27,8 @@ impl Model for Pairs {
     ghost invariant = { λ p. AreRows (record { starts = p.starts.items; items = p.items.items }) };
 }
 
-/// For each event below a count how many pairs of a list have it as their first one, and a 0; and one more than how many
-/// have it as their second one.
+/// For each event below a count how many pairs of a list have it as their first one, and a 0; and one more than how
+/// many have it as their second one.
 fn count_pairs(
     alloc: Global,
     list: &[(EventId, EventId)],

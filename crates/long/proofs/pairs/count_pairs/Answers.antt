@@ -146,8 +146,8 @@ loop-i-preserved c =
         )
       ];
       low = λ f. elim (cases_eq a f) [
-        | inl one ↦ subst (λ (k : ℕ). get_or (set was a (c.index_mut-in-loop-i.result.now + 1)) k 0 ≤ c.loop-i.i + 1 + 1) one
-            (omega (
+        | inl one ↦ subst (λ (k : ℕ). get_or (set was a (c.index_mut-in-loop-i.result.now + 1)) k 0
+            ≤ c.loop-i.i + 1 + 1) one (omega (
               arith,
               get_or-set_same was a (c.index_mut-in-loop-i.result.now + 1) 0 here,
               read,
