@@ -5,7 +5,7 @@ ghost use Rattle.std.specs.Io.KnownBytes.{Appends, Consumes, IsAtEnd};
 ghost use Rattle.devices.specs.Bytes.{Fails, FailsBy, Gathers, is_read_failure};
 
 use crate::bytes::{Failed, Sink, Source};
-use std::alloc::Global;
+use std::alloc::{AllocError, Global};
 
 /// Why not all bytes of a source were read.
 #[derive(Clone, Copy, Debug, PartialEq, Eq)]
@@ -14,6 +14,17 @@ pub enum ReadError {
     ReadFailed,
     /// There was no memory.
     OutOfMemory,
+}
+
+impl From<AllocError> for ReadError {
+    ghost use Rattle.std.specs.Prelude.{◌≡◌};
+    ghost use Rattle.devices.specs.declared.whole.ReadError.TheVariants.{OutOfMemory};
+
+    ghost from_gives = { λ _ e. e ≡ OutOfMemory };
+
+    fn from(_refused: AllocError) -> ReadError {
+        ReadError::OutOfMemory
+    }
 }
 
 /// How many bytes are asked for at once.
@@ -37,9 +48,7 @@ pub fn read_more<R: Source>(
 {
     match source.pull(chunk) {
         Ok(n) => {
-            let Ok(()) = bytes.extend_from_slice(&chunk[..n]) else {
-                return Err(ReadError::OutOfMemory);
-            };
+            bytes.extend_from_slice(&chunk[..n])?;
             Ok(n)
         }
         Err(Failed) => Err(ReadError::ReadFailed),
@@ -54,9 +63,7 @@ pub fn read_all<R: Source>(alloc: Global, source: &mut R) -> Result<Vec<u8>, Rea
     ensures failed { FailsBy is_read_failure (R.read_failed source.old) (R.read_failed source.new) result }
 {
     let mut bytes = Vec::new(alloc);
-    let Ok(mut chunk) = Vec::from_elem(alloc, 0u8, CHUNK) else {
-        return Err(ReadError::OutOfMemory);
-    };
+    let mut chunk = Vec::from_elem(alloc, 0u8, CHUNK)?;
     'chunks: while read_more(source, &mut chunk, &mut bytes)? > 0 {}
     Ok(bytes)
 }

@@ -6,7 +6,7 @@ pub chunks-init : goal.chunks-init
 chunks-init g c = (
   rw c.new-bytes.ensures.items (Consumes-nil (g.R.Source.left c.args.source.now)),
   refl,
-  omega (arith, c.in-Ok.ensures.len),
+  omega (arith, c.in_ok-chunk.ensures.len),
 )
 
 pub chunks-preserved : goal.chunks-preserved
