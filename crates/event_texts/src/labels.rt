@@ -91,6 +91,17 @@ pub enum LabelError {
     OutOfMemory,
 }
 
+impl From<OutOfMemory> for LabelError {
+    ghost use Rattle.std.specs.Prelude.{◌≡◌};
+    ghost use Rattle.event_texts.specs.declared.labels.LabelError.TheVariants.{OutOfMemory};
+
+    ghost from_gives = { λ _ e. e ≡ OutOfMemory };
+
+    fn from(_refused: OutOfMemory) -> LabelError {
+        LabelError::OutOfMemory
+    }
+}
+
 /// The labels that a text has: its lines, each without the newline that ends it, and a carriage return before that.
 pub fn labels_in(alloc: Global, text: &[u8]) -> Result<Labels, LabelError>
     ensures ok { IfOk result (λ labels. labels_in text.now ≡ Ok labels) }
@@ -99,8 +110,7 @@ pub fn labels_in(alloc: Global, text: &[u8]) -> Result<Labels, LabelError>
     if let Some(place) = first_too_long(text) {
         return Err(LabelError::TooLong(place + 1));
     }
-    match copied_lines(alloc, text) {
-        Ok(texts) => Ok(Labels { texts }),
-        Err(OutOfMemory) => Err(LabelError::OutOfMemory),
-    }
+    Ok(Labels {
+        texts: copied_lines(alloc, text)?,
+    })
 }
