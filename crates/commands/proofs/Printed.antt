@@ -18,27 +18,27 @@ use Rattle.inputs.specs.declared.command_stop.CommandStop.{CommandStop}
 use Rattle.inputs.specs.declared.command_stop.CommandStop.TheVariants.{Failed, Refused}
 use Rattle.inputs.specs.Inputs.{AreTakenBack, Inputs, ReadsInput, ReadsNamed, is_read_failure}
 use Rattle.commands.specs.Command.{IsAnswerTo, IsCommandStop, input_names}
-use Rattle.commands.specs.Perform.{Answers, IsOutputFor, IsOutputOf, IsWritten, IsWrittenFor, Tallies}
+use Rattle.commands.specs.Perform.{Answers, IsOutputFor, IsOutputOf, IsWritten, IsWrittenFor, Tallies, World, world}
 use Rattle.commands.specs.Survey.{IsEachWritten, TellsEach}
 
 -- the output of what is printed for the words is written for them
-pub output_written : (inputs : Inputs) (words : List Text) (a b c : HostLog)
-    (before after : Option (List ℕ)) (answer : Answer) (r : Result Outcome CommandError) → c ≡ b
-    → IsOutputFor inputs words a b answer → IsWritten answer before after r → IsWrittenFor inputs words a c before after r
-output_written inputs words a b c before after answer (Ok outcome) same is output =
-    subst (λ (l : HostLog). IsWrittenFor inputs words a l before after (Ok outcome)) (sym same)
+pub output_written : (inputs : Inputs) (words : List Text) (before : World) (b c : HostLog) (after : Option (List ℕ))
+    (answer : Answer) (r : Result Outcome CommandError) → c ≡ b → IsOutputFor inputs words before.log b answer
+    → IsWritten answer before.written after r → IsWrittenFor inputs words before (world c after) r
+output_written inputs words before b c after answer (Ok outcome) same is output =
+    subst (λ (l : HostLog). IsWrittenFor inputs words before (world l after) (Ok outcome)) (sym same)
     (inl (answer, is, output.0, output.1))
-output_written inputs words a b c before after answer (Err error) same is output =
-    subst (λ (l : HostLog). IsWrittenFor inputs words a l before after (Err error)) (sym same)
+output_written inputs words before b c after answer (Err error) same is output =
+    subst (λ (l : HostLog). IsWrittenFor inputs words before (world l after) (Err error)) (sym same)
     (λ failed at_once. let (n, written) = output failed in (answer, is, n, written))
 
 -- the lines of recordings are written for the words that ask for them
-pub each_written : (inputs : Inputs) (words : List Text) (o : SurveyOptions) (a b : HostLog)
-    (before after : Option (List ℕ)) (r : Result Outcome CommandError) → AreOptions (Survey o) (command_of words)
-    → TellsEach o → IfOk r (IsEachWritten inputs o before after) → ReadsInput (string_bytes o.file) a b r
-    → IsWrittenFor inputs words a b before after r
-each_written inputs words o a b before after (Ok outcome) are told written read = inr (o, are, written, read)
-each_written inputs words o a b before after (Err error) are told written reads =
+pub each_written : (inputs : Inputs) (words : List Text) (o : SurveyOptions) (before after : World)
+    (r : Result Outcome CommandError) → AreOptions (Survey o) (command_of words) → TellsEach o
+    → IfOk r (IsEachWritten inputs o before.written after.written)
+    → ReadsInput (string_bytes o.file) before.log after.log r → IsWrittenFor inputs words before after r
+each_written inputs words o before after (Ok outcome) are told written read = inr (o, are, written, read)
+each_written inputs words o before after (Err error) are told written reads =
     λ failed at_once. absurd (at_once (Survey o) are told)
 
 -- what a command answers, or why it stops, by what it reads

@@ -1,6 +1,7 @@
 pub mod Headed
 pub mod Judge
 pub mod Replay
+pub mod WithoutOptions
 pub mod Perform
 pub mod Run
 pub mod Render

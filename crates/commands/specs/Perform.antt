@@ -1,55 +1,36 @@
 -- What is printed for the words of a command line.
-use Rattle.std.specs.Prelude.{◌≡◌, ◌≢◌, ◌⊎◌, ◌++◌, ◌∷◌, [], ℕ, List, Option, Result, Ok, Err, string_bytes, take, ⊤}
+use Rattle.std.specs.Prelude.{◌≡◌, ◌⊎◌, ◌∷◌, [], ℕ, List, Option, Result, Ok, Err, string_bytes, take, ⊤}
 use Rattle.std.specs.Io.KnownBytes.{Appends}
-use Rattle.clap.specs.Words.{Text, kind_of}
-use Rattle.clap.specs.declared.error.Error.{Error}
-use Rattle.clap.specs.declared.error.kind.ErrorKind.TheVariants.{DisplayHelp, DisplayVersion}
+use Rattle.clap.specs.Words.{Text}
 use Rattle.verdicts.specs.declared.printed.Answer.{Answer}
-use Rattle.inputs.specs.declared.command_stop.CommandStop.{CommandStop}
-use Rattle.inputs.specs.declared.command_stop.CommandStop.TheVariants.{Refused, Failed}
 use Rattle.verdicts.specs.declared.outcome.Outcome.{Outcome}
-use Rattle.verdicts.specs.declared.outcome.Outcome.TheVariants.{Done}
 use Rattle.verdicts.specs.declared.outcome.Outcome.TheVariants as out
 use Rattle.devices.specs.declared.host.Tally.{Tally}
 use Rattle.devices.specs.Host.{HostLog}
-use Rattle.inputs.specs.declared.command_error.CommandError.{CommandError}
-use Rattle.inputs.specs.declared.command_error.CommandError.TheVariants.{CommandLine, WriteFailed}
-use Rattle.inputs.specs.declared.command_error.CommandError.TheVariants as error
 use Rattle.command_line.specs.declared.options.Options.{Options}
 use Rattle.command_line.specs.declared.options.Options.TheVariants.{Survey}
 use Rattle.command_line.specs.declared.options.OptionStop.{OptionStop}
-use Rattle.command_line.specs.declared.options.OptionStop.TheVariants.{Clap}
-use Rattle.command_line.specs.declared.options.OptionStop.TheVariants as refused
 use Rattle.command_line.specs.declared.options.SurveyOptions.{SurveyOptions}
 use Rattle.command_line.specs.Commands.{command_of}
-use Rattle.refusals.specs.Meanings.{meaning, meanings}
-use Rattle.refusals.specs.Table.{texts_of}
 use Rattle.command_line.specs.Options.{AreOptions, IsOptionStop}
+use Rattle.inputs.specs.declared.command_error.CommandError.{CommandError}
+use Rattle.inputs.specs.declared.command_error.CommandError.TheVariants.{WriteFailed}
+use Rattle.inputs.specs.declared.command_stop.CommandStop.{CommandStop}
+use Rattle.inputs.specs.declared.command_stop.CommandStop.TheVariants.{Refused, Failed}
 use Rattle.inputs.specs.Inputs.{AreRead, AreStopped, AreTakenBack, Inputs, IsStoppedBy}
-use Rattle.commands.specs.OptionRefusals.{option_line}
 use Rattle.report.specs.Written.{IsBegun, IsPut}
 use Rattle.commands.specs.Command.{IsAnswerTo, IsCommandStop, input_names}
 use Rattle.commands.specs.Survey.{IsEachWritten, TellsEach}
+pub use Rattle.commands.specs.WithoutOptions.{IsMistake, IsWithoutOptions}
 
--- what clap says goes to standard error: it is neither help nor the version
-abbrev pub IsMistake : Error → Type 0
-IsMistake error = (kind_of error ≢ DisplayHelp) × (kind_of error ≢ DisplayVersion)
+-- the world of a command at a moment: what its host noted, and all that was written, where it is known
+pub record World : Type 0 where
+  pub log : HostLog
+  pub written : Option (List ℕ)
 
--- without options help was asked for, whose text no clause says, or what refusals mean, or there is a line of refusal,
--- which is that of the options, or an error: what clap says, or standard input that is named twice, or options that
--- don't go together
-abbrev pub IsWithoutOptions : OptionStop → Result Answer CommandStop → Type 0
-IsWithoutOptions (Clap error) (Ok answer) = (answer.outcome ≡ Done) × (IsMistake error → ⊥)
-IsWithoutOptions refused.RefusalMeanings (Ok answer) = (answer.outcome ≡ Done)
-    × (answer.text.items ≡ meanings)
-IsWithoutOptions (refused.RefusalMeaning refusal) (Ok answer) = (answer.outcome ≡ Done)
-    × (answer.text.items ≡ meaning (texts_of refusal))
-IsWithoutOptions (refused.Refused refusal) (Err (Refused printed)) = string_bytes printed.line ≡ option_line refusal
-IsWithoutOptions (Clap error) (Err (Failed (CommandLine said))) = (said ≡ error) × IsMistake error
-IsWithoutOptions refused.StandardInputTwice (Err (Failed error.StandardInputTwice)) = ⊤
-IsWithoutOptions (refused.Misfit misfit) (Err (Failed (error.Misfit said))) = said ≡ misfit
-IsWithoutOptions other (Err (Failed error.OutOfMemory)) = ⊤
-IsWithoutOptions other answered = ⊥
+-- the world of a host and a sink of which these are known
+abbrev pub world : HostLog → Option (List ℕ) → World
+world log written = record { log = log; written = written }
 
 -- what a command with these options answers, by all of its inputs, or why it stops, by the inputs up to there
 abbrev pub Answers : Inputs → Options → HostLog → HostLog → Result Answer CommandStop → Type 0
@@ -91,19 +72,19 @@ abbrev pub WritesAtOnce : List Text → Type 0
 WritesAtOnce words = (o : Options) → AreOptions o (command_of words) → WritesEarly o → ⊥
 
 -- the lines of recordings and their counts were written, by all of the input, for words that ask for them
-abbrev pub IsEachWrittenFor : Inputs → List Text → HostLog → HostLog → Option (List ℕ) → Option (List ℕ) → Outcome
-    → Type 0
-IsEachWrittenFor inputs words a b before after outcome = (o : SurveyOptions) × AreOptions (Survey o) (command_of words)
-    × IsEachWritten inputs o before after outcome × AreRead (string_bytes o.file ∷ []) a b
+abbrev pub IsEachWrittenFor : Inputs → List Text → World → World → Outcome → Type 0
+IsEachWrittenFor inputs words before after outcome = (o : SurveyOptions) × AreOptions (Survey o) (command_of words)
+    × IsEachWritten inputs o before.written after.written outcome
+    × AreRead (string_bytes o.file ∷ []) before.log after.log
 
 -- what was written for the words, and its outcome: the output for them, or the lines of recordings; or, where a write
 -- failed, and all is written at once, the first bytes of the output
-abbrev pub IsWrittenFor : Inputs → List Text → HostLog → HostLog → Option (List ℕ) → Option (List ℕ)
-    → Result Outcome CommandError → Type 0
-IsWrittenFor inputs words a b before after (Ok outcome) =
-    IsPut (IsOutputFor inputs words a b) before after outcome ⊎ IsEachWrittenFor inputs words a b before after outcome
-IsWrittenFor inputs words a b before after (Err error) =
-    error ≡ WriteFailed → WritesAtOnce words → IsBegun (IsOutputFor inputs words a b) before after
+abbrev pub IsWrittenFor : Inputs → List Text → World → World → Result Outcome CommandError → Type 0
+IsWrittenFor inputs words before after (Ok outcome) =
+    IsPut (IsOutputFor inputs words before.log after.log) before.written after.written outcome
+    ⊎ IsEachWrittenFor inputs words before after outcome
+IsWrittenFor inputs words before after (Err error) = error ≡ WriteFailed → WritesAtOnce words
+    → IsBegun (IsOutputFor inputs words before.log after.log) before.written after.written
 
 -- why nothing is written for these options, or not all
 abbrev pub IsErrorFor : Inputs → Options → HostLog → HostLog → CommandError → Type 0

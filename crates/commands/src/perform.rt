@@ -7,11 +7,9 @@ ghost use Rattle.devices.specs.Bytes.{FailsBy};
 ghost use Rattle.inputs.specs.Inputs.{ReadsNamed, is_write_failure};
 ghost use Rattle.commands.specs.Command.{IsAnswerTo, IsCommandStop, input_names};
 ghost use Rattle.command_line.specs.Commands.{command_of};
-ghost use Rattle.commands.specs.Perform.{IsErrorFor, IsErrorOf, IsOutputOf, IsWithoutOptions, IsWrittenFor};
-ghost use Rattle.commands.specs.Perform.{WritesAtOnce, WritesEarly, Tallies};
+ghost use Rattle.commands.specs.Perform.{IsErrorFor, IsErrorOf, IsOutputOf, IsWrittenFor, Tallies, WritesAtOnce};
+ghost use Rattle.commands.specs.Perform.{WritesEarly, world};
 ghost use Rattle.commands.specs.Survey.{TellsEach};
-ghost use Rattle.refusals.specs.Meanings.{meaning, meanings};
-ghost use Rattle.refusals.specs.Table.{texts_of};
 
 use crate::complete_command::complete_command;
 use crate::judge_command::judge_command;
@@ -21,71 +19,22 @@ use crate::make_command::make_command;
 use crate::merge_command::merge_command;
 use crate::outcomes_command::outcomes_command;
 use crate::output::write_output;
-use crate::refused_options::option_refusal;
 use crate::render_command::render_command;
 use crate::replay_command::replay_command;
 use crate::run_command::run_command;
 use crate::survey_command::{each_command, survey_command};
 use crate::trials_command::trials_command;
 use crate::verify_command::verify_command;
+use crate::without_options::without_options;
 use answers::Rendering;
 use command_line::words::options;
-use command_line::{OptionStop, Options, SurveyOptions};
-use common::OutOfMemory;
+use command_line::{Options, SurveyOptions};
 use devices::{Host, Sink};
 use inputs::{CommandError, CommandStop, PrintedRefusal};
-use refusals::{Refusal, meaning, meanings};
 use report::{Answer, Outcome};
 use std::alloc::Global;
 use std::sync::Wait;
 use std::thread::Threads;
-
-/// The answer with what refusals mean. Fails only if out of memory.
-fn meanings_answer(alloc: Global) -> Result<Answer, OutOfMemory>
-    ensures { IfOk result (λ answer. (answer.outcome ≡ Outcome.Done) × (answer.text.items ≡ meanings)) }
-{
-    Ok(Answer {
-        outcome: Outcome::Done,
-        text: meanings(alloc)?,
-    })
-}
-
-/// The answer with what a refusal means. Fails only if out of memory.
-fn meaning_answer(alloc: Global, refusal: &Refusal<&str>) -> Result<Answer, OutOfMemory>
-    ensures { IfOk result (λ answer. (answer.outcome ≡ Outcome.Done)
-        × (answer.text.items ≡ meaning (texts_of refusal.now))) }
-{
-    Ok(Answer {
-        outcome: Outcome::Done,
-        text: meaning(alloc, refusal)?,
-    })
-}
-
-/// The answer where there are no options: the help that was asked for, a refusal or an error.
-fn without_options(alloc: Global, stop: OptionStop) -> Result<Answer, CommandStop>
-    ensures { IsWithoutOptions stop result }
-{
-    match stop {
-        OptionStop::Clap(error) => {
-            if error.use_stderr() {
-                return Err(CommandStop::Failed(CommandError::CommandLine(error)));
-            }
-            let text = format!(in alloc; "{error}")?;
-            Ok(Answer {
-                outcome: Outcome::Done,
-                text: text.into_bytes(),
-            })
-        }
-        OptionStop::RefusalMeanings => Ok(meanings_answer(alloc)?),
-        OptionStop::RefusalMeaning(refusal) => Ok(meaning_answer(alloc, &refusal)?),
-        OptionStop::StandardInputTwice => Err(CommandStop::Failed(
-            CommandError::StandardInputTwice,
-        )),
-        OptionStop::Misfit(misfit) => Err(CommandStop::Failed(CommandError::Misfit(misfit))),
-        OptionStop::Refused(refusal) => Err(CommandStop::Refused(option_refusal(alloc, refusal)?)),
-        OptionStop::OutOfMemory => Err(CommandStop::Failed(CommandError::OutOfMemory)),
-    }
-}
 
 /// What the command answers that these options ask for, which are not those of a survey that tells each recording.
 fn answer_to<R: Threads + Wait + Sync, H: Host>(
@@ -166,8 +115,9 @@ fn perform_options<R: Threads + Wait + Sync, H: Host, W: Sink>(
     out: &mut W,
 ) -> Result<Outcome, CommandError>
     requires options { (command : Option (Text × List Row)) × AreOptions options.now command }
-    ensures written { (words : List Text) → AreOptions options.now (command_of words) → IsWrittenFor (H.bytes host.old)
-        words (H.log host.old) (H.log host.new) (W.written out.old) (W.written out.new) result }
+    ensures written { (words : List Text) → AreOptions options.now (command_of words)
+        → IsWrittenFor (H.bytes host.old) words (world (H.log host.old) (W.written out.old))
+        (world (H.log host.new) (W.written out.new)) result }
     ensures error { IfErr result (IsErrorFor (H.bytes host.old) options.now (H.log host.old) (H.log host.new)) }
     ensures reads { Tallies (H.log host.old).tally (H.log host.new).tally result }
     ensures writes { FailsBy is_write_failure (W.write_failed out.old) (W.write_failed out.new) result }
@@ -193,8 +143,8 @@ pub fn perform<R: Threads + Wait + Sync, H: Host, W: Sink>(
     host: &mut H,
     out: &mut W,
 ) -> Result<Outcome, CommandError>
-    ensures written { IsWrittenFor (H.bytes host.old) (map string_bytes words.now) (H.log host.old) (H.log host.new)
-        (W.written out.old) (W.written out.new) result }
+    ensures written { IsWrittenFor (H.bytes host.old) (map string_bytes words.now)
+        (world (H.log host.old) (W.written out.old)) (world (H.log host.new) (W.written out.new)) result }
     ensures error { IfErr result (IsErrorOf (H.bytes host.old) (map string_bytes words.now)
         (H.log host.old) (H.log host.new)) }
     ensures reads { Tallies (H.log host.old).tally (H.log host.new).tally result }

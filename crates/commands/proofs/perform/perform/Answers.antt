@@ -1,5 +1,6 @@
 use Rattle.std.proofs.Common.{inl, inr, map, string_bytes}
 use Rattle.std.proofs.lemmas.Result.{IfErr-weaker}
+use Rattle.commands.specs.Perform.{world}
 use Rattle.commands.proofs.Asking.{read_none}
 use Rattle.commands.proofs.Printed.{output_written, unwritten_more}
 use Rattle.commands.proofs.perform.perform.Goals as goal
@@ -17,10 +18,11 @@ returns-in-Ok-clause-unwritten g c = unwritten_more c.perform_options.result _ _
 
 pub returns-in_ok-output-in-Err-clause-written : goal.returns-in_ok-output-in-Err-clause-written
 returns-in_ok-output-in-Err-clause-written g c =
-    output_written _ (map string_bytes c.args.words.now) _ _ _ _ _ c.in_ok-output-in-Err.output c.write_output.result
-    c.in_ok-output-in-Err.ensures.log (
+    let log = g.H.Host.log c.args.host.now in
+    output_written _ (map string_bytes c.args.words.now) (world log (g.W.Sink.written c.args.out.now)) log _ _
+    c.in_ok-output-in-Err.output c.write_output.result c.in_ok-output-in-Err.ensures.log (
       c.without_options.result,
-      inr (c.in-Err.stop, c.in-Err.ensures.err, c.without_options.ensures, read_none (g.H.Host.log c.args.host.now)),
+      inr (c.in-Err.stop, c.in-Err.ensures.err, c.without_options.ensures, read_none log),
       c.in_ok-output-in-Err.ensures.ok,
     )
     c.write_output.ensures.written
