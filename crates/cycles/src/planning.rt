@@ -223,11 +223,15 @@ fn performed(alloc: Global, words: &[Word], accesses: &[Access]) -> Result<Memor
         perform_between(&mut memory, accesses, 0, first)?;
         return Ok(memory);
     }
-    let writes_first = start(word_at(words, first)).is_store;
-    perform_side(&mut memory, accesses, first, writes_first)?;
+    let (earlier, later) = if start(word_at(words, first)).is_store {
+        (AtomicSide::Write, AtomicSide::Read)
+    } else {
+        (AtomicSide::Read, AtomicSide::Write)
+    };
+    perform_side(&mut memory, accesses, first, earlier)?;
     perform_between(&mut memory, accesses, first.wrapping_add(1), accesses.len())?;
     perform_between(&mut memory, accesses, 0, first)?;
-    perform_side(&mut memory, accesses, first, !writes_first)?;
+    perform_side(&mut memory, accesses, first, later)?;
     Ok(memory)
 }
 
@@ -246,21 +250,30 @@ fn perform_between(
     Ok(())
 }
 
-/// Performs one side of an atomic access: its write, or its read.
+/// A side of an atomic access.
+#[derive(Clone, Copy)]
+enum AtomicSide {
+    Read,
+    Write,
+}
+
+/// Performs one side of an atomic access.
 fn perform_side(
     memory: &mut Memory,
     accesses: &[Access],
     at: usize,
-    writes: bool,
+    side: AtomicSide,
 ) -> Result<(), OutOfMemory> {
     let Some(access) = accesses.get(at) else {
         return Ok(());
     };
-    if writes {
-        return memory.write(*access);
+    match side {
+        AtomicSide::Read => {
+            memory.read(at, *access);
+            Ok(())
+        }
+        AtomicSide::Write => memory.write(*access),
     }
-    memory.read(at, *access);
-    Ok(())
 }
 
 /// The events of each core: those of the accesses, and fences.
