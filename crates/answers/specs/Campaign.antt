@@ -1,5 +1,5 @@
 -- What is answered of campaigns.
-use Rattle.std.specs.Prelude.{◌≡◌, ◌++◌, ◌∷◌, ℕ, Bool, true, None, Some, List, if◌then◌else◌, is_some, nat_lt}
+use Rattle.std.specs.Prelude.{◌≡◌, ◌++◌, ◌∷◌, ℕ, None, Some, List, if◌then◌else◌, is_some, nat_lt}
 use Rattle.program.specs.Parts.{Parts}
 use Rattle.litmus.specs.Spelling.{spelling}
 use Rattle.relations.specs.Consistency.{HasNoOrder}
@@ -14,6 +14,8 @@ use Rattle.trials.specs.Codes.{AreCodes, EndsIn, program_of_trial}
 use Rattle.verdicts.specs.declared.printed.Answer.{Answer}
 use Rattle.verdicts.specs.declared.outcome.Outcome.{Outcome}
 use Rattle.verdicts.specs.declared.outcome.Outcome.TheVariants.{Done, Unfinished, Violation}
+use Rattle.answers.specs.declared.reduced.ViolationForm.{ViolationForm}
+use Rattle.answers.specs.declared.reduced.ViolationForm.TheVariants.{Reduced}
 use Rattle.answers.specs.Reduced.{IsCutAnswer}
 use Rattle.answers.specs.Run.{IsRunAnswer}
 
@@ -48,12 +50,13 @@ abbrev pub IsViolation : Parts → State → Type 0
 IsViolation p s = IsComplete p.cores s × HasNoOrder (recorded p.cores s)
 
 -- what is shown of a run: a violation is cut down to the events that it needs where that is asked for
-pub record IsShownRun (fault : Fault) (p : Parts) (s : State) (reduced : Bool) (answer : Answer) : Type 0 where
-  pub whole : (reduced ≡ true → ¬ IsViolation p s) → IsWholeShown fault p s answer
-  pub cut : reduced ≡ true → IsViolation p s → IsCutAnswer (recorded p.cores s) (Some p) None answer
+pub record IsShownRun (fault : Fault) (p : Parts) (s : State) (form : ViolationForm) (answer : Answer)
+    : Type 0 where
+  pub whole : (form ≡ Reduced → ¬ IsViolation p s) → IsWholeShown fault p s answer
+  pub cut : form ≡ Reduced → IsViolation p s → IsCutAnswer (recorded p.cores s) (Some p) None answer
 
 -- what is shown of the run of trial k
-pub record IsShownAnswer (p : Plan) (k : ℕ) (reduced : Bool) (answer : Answer) : Type 0 where
+pub record IsShownAnswer (p : Plan) (k : ℕ) (form : ViolationForm) (answer : Answer) : Type 0 where
   pub end : Configuration
   pub ends : EndsIn p k end
-  pub shown : IsShownRun p.fault (program_of_trial p k) end.state reduced answer
+  pub shown : IsShownRun p.fault (program_of_trial p k) end.state form answer

@@ -10,6 +10,8 @@ use Rattle.cycles.specs.declared.making.Made.{Made}
 use Rattle.cycles.specs.declared.refusal.CycleRefusal.{CycleRefusal}
 use Rattle.cycles.specs.Listing.{cycle_text, listed}
 use Rattle.cycles.specs.Made.{IsMade, IsRefusal}
+use Rattle.answers.specs.declared.made_answers.CycleChoice.{CycleChoice}
+use Rattle.answers.specs.declared.made_answers.CycleChoice.TheVariants.{Each, Forbidden}
 use Rattle.answers.specs.Outcomes.{IsText}
 
 -- TSO allows a recording, or does not
@@ -24,27 +26,27 @@ IsSaidToBeForbidden text false = ((m : Made) × IsMade text m × (o : List ℕ) 
     ⊎ ((r : CycleRefusal) × IsRefusal text r)
 
 -- the line of a cycle is wanted: of each, or of those alone that TSO forbids
-abbrev pub IsWanted : Bool → List ℕ → Bool → Type 0
-IsWanted false text wanted = wanted ≡ true
-IsWanted true text wanted = IsSaidToBeForbidden text wanted
+abbrev pub IsWanted : CycleChoice → List ℕ → Bool → Type 0
+IsWanted Each text wanted = wanted ≡ true
+IsWanted Forbidden text wanted = IsSaidToBeForbidden text wanted
 
 -- the line of a cycle
 abbrev pub cycle_line : List ℕ → List ℕ
 cycle_line blocks = cycle_text blocks ++ 10 ∷ []
 
 -- the line of a cycle of these blocks, if it is wanted
-abbrev pub IsPick : Bool → List ℕ → List ℕ → Type 0
-IsPick forbidden blocks line = (wanted : Bool) × IsWanted forbidden (cycle_text blocks) wanted
+abbrev pub IsPick : CycleChoice → List ℕ → List ℕ → Type 0
+IsPick choice blocks line = (wanted : Bool) × IsWanted choice (cycle_text blocks) wanted
     × (line ≡ (if wanted then cycle_line blocks else []))
 
 -- the lines of the first n cycles
-abbrev pub ArePicked : Bool → List (List ℕ) → ℕ → List ℕ → Type 0
-ArePicked forbidden cycles zero text = text ≡ []
-ArePicked forbidden cycles (suc n) text = (before : List ℕ) × (line : List ℕ) × ArePicked forbidden cycles n before
-    × IsPick forbidden (slice_index_or cycles n []) line × (text ≡ before ++ line)
+abbrev pub ArePicked : CycleChoice → List (List ℕ) → ℕ → List ℕ → Type 0
+ArePicked choice cycles zero text = text ≡ []
+ArePicked choice cycles (suc n) text = (before : List ℕ) × (line : List ℕ) × ArePicked choice cycles n before
+    × IsPick choice (slice_index_or cycles n []) line × (text ≡ before ++ line)
 
--- the lines of the critical cycles with at most this many events
-pub record IsListAnswer (events : ℕ) (forbidden : Bool) (answer : Answer) : Type 0 where
+-- the lines of the critical cycles with at most this many events that are chosen
+pub record IsListAnswer (events : ℕ) (choice : CycleChoice) (answer : Answer) : Type 0 where
   pub text : List ℕ
-  pub lines : ArePicked forbidden (listed events) (length (listed events)) text
+  pub lines : ArePicked choice (listed events) (length (listed events)) text
   pub said : IsText Done text answer

@@ -1,5 +1,5 @@
 -- What is answered of the outcomes of a program.
-use Rattle.std.specs.Prelude.{◌≡◌, ◌⊎◌, ◌==◌, ◌∷◌, ◌++◌, [], ℕ, Bool, true, false, not, if◌then◌else◌, List, codes}
+use Rattle.std.specs.Prelude.{◌≡◌, ◌⊎◌, ◌==◌, ◌∷◌, ◌++◌, [], ℕ, Bool, not, if◌then◌else◌, List, codes}
 use Rattle.program.specs.Parts.{Parts}
 use Rattle.outcomes.specs.declared.observed.Observation.{Observation}
 use Rattle.outcomes.specs.Listed.{AreListed}
@@ -12,6 +12,8 @@ use Rattle.verdicts.specs.declared.outcome.Outcome.{Outcome as HowItComesOut}
 use Rattle.verdicts.specs.declared.outcome.Outcome.TheVariants.{Done, Unfinished, Violation}
 use Rattle.answers.specs.declared.outcome_answers.Condition.{Condition}
 use Rattle.answers.specs.declared.outcome_answers.Condition.TheVariants.{Exists, Never}
+use Rattle.answers.specs.declared.outcome_answers.Reply.{Reply}
+use Rattle.answers.specs.declared.outcome_answers.Reply.TheVariants.{Yes, No}
 
 -- an answer of this text, which comes out so
 pub record IsText (outcome : HowItComesOut) (text : List ℕ) (answer : Answer) : Type 0 where
@@ -41,14 +43,19 @@ abbrev pub is_met : Condition → List Outcome → List Observation → Bool
 is_met Exists os seen = explains os seen
 is_met Never os seen = not (explains os seen)
 
-abbrev pub condition_outcome : Bool → HowItComesOut
-condition_outcome met = if met then Done else Violation
+-- so it is printed
+abbrev pub reply_to : Condition → List Outcome → List Observation → Reply
+reply_to condition os seen = if is_met condition os seen then Yes else No
 
-abbrev pub condition_text : Bool → List ℕ
-condition_text true = codes "Yes" ++ 10 ∷ []
-condition_text false = codes "No" ++ 10 ∷ []
+abbrev pub condition_outcome : Reply → HowItComesOut
+condition_outcome Yes = Done
+condition_outcome No = Violation
+
+abbrev pub condition_text : Reply → List ℕ
+condition_text Yes = codes "Yes" ++ 10 ∷ []
+condition_text No = codes "No" ++ 10 ∷ []
 
 -- whether a condition holds
 abbrev pub IsConditionAnswer : Parts → ℕ → Condition → List Observation → Answer → Type 0
 IsConditionAnswer p states condition seen answer = IsByOutcomes p states
-    (λ os. IsText (condition_outcome (is_met condition os seen)) (condition_text (is_met condition os seen))) answer
+    (λ os. IsText (condition_outcome (reply_to condition os seen)) (condition_text (reply_to condition os seen))) answer

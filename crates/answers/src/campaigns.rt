@@ -13,6 +13,15 @@ use std::thread::Threads;
 use trials::{Campaign, Ledger, run_campaign};
 use verdicts::{Answer, Outcome};
 
+/// Where the counts of a survey stand.
+#[derive(Clone, Copy, Debug, PartialEq, Eq)]
+pub enum CountsPlace {
+    /// They are all that is printed.
+    Alone,
+    /// Lines of recordings come before them, and an empty line.
+    AfterLines,
+}
+
 /// The outcome of a ledger: `Violation` where there is one, else the given outcome where something has no verdict.
 fn outcome_of(ledger: &Ledger, unjudged: Outcome) -> Outcome
     ensures { result ≡ ledger_outcome unjudged ledger.now }
@@ -54,29 +63,36 @@ pub fn campaign_answer<R: Threads + Wait + Sync, G: Gate>(
     trials_answer(alloc, &ledger)
 }
 
-/// A text of counts, after an empty line where lines of recordings come before it.
-fn counts_after(alloc: Global, after_lines: bool, counts: &[u8]) -> Result<Vec<u8>, OutOfMemory>
-    ensures { IfOk result (λ text. text.items ≡ empty_line after_lines ++ counts.now) }
+/// What stands between counts and what comes before them.
+fn empty_line(place: CountsPlace) -> &'static [u8]
+    ensures { result.now ≡ empty_line place }
 {
-    let mut text = Vec::new(alloc);
-    if after_lines {
-        text.push(b'\n')?;
+    match place {
+        CountsPlace::Alone => b"",
+        CountsPlace::AfterLines => b"\n",
     }
+}
+
+/// A text of counts in its place.
+fn counts_in(alloc: Global, place: CountsPlace, counts: &[u8]) -> Result<Vec<u8>, OutOfMemory>
+    ensures { IfOk result (λ text. text.items ≡ empty_line place ++ counts.now) }
+{
+    let mut text = Vec::from_slice(alloc, empty_line(place))?;
     text.extend_from_slice(counts)?;
     Ok(text)
 }
 
-/// The text of a survey's ledger, after an empty line where lines of recordings come before it, and `Violation`
-/// where a recording violates TSO, else `Refused` where one is refused, else `Done`. Fails only if out of memory.
+/// The text of a survey's ledger in its place, and `Violation` where a recording violates TSO, else `Refused` where one
+/// is refused, else `Done`. Fails only if out of memory.
 pub fn survey_answer(
     alloc: Global,
     ledger: &Ledger,
-    after_lines: bool,
+    place: CountsPlace,
 ) -> Result<Answer, OutOfMemory>
-    ensures { IfOk result (IsSurveyAnswer after_lines ledger.now) }
+    ensures { IfOk result (IsSurveyAnswer place ledger.now) }
 {
     let counts = survey_text(alloc, ledger)?;
-    let text = counts_after(alloc, after_lines, &counts)?;
+    let text = counts_in(alloc, place, &counts)?;
     let outcome = outcome_of(ledger, Outcome::Refused);
     Ok(Answer { outcome, text })
 }
@@ -97,17 +113,16 @@ fn values_outcome(ledger: &SurveyLedger) -> Outcome
     }
 }
 
-/// The text of a survey of values, after an empty line where lines of recordings come before it, and its outcome. Fails
-/// only if out of memory.
+/// The text of a survey of values in its place, and its outcome. Fails only if out of memory.
 pub fn values_survey_answer(
     alloc: Global,
     ledger: &SurveyLedger,
-    after_lines: bool,
+    place: CountsPlace,
 ) -> Result<Answer, OutOfMemory>
-    ensures { IfOk result (IsValuesSurveyAnswer after_lines ledger.now) }
+    ensures { IfOk result (IsValuesSurveyAnswer place ledger.now) }
 {
     let counts = values_survey_text(alloc, ledger)?;
-    let text = counts_after(alloc, after_lines, &counts)?;
+    let text = counts_in(alloc, place, &counts)?;
     let outcome = values_outcome(ledger);
     Ok(Answer { outcome, text })
 }

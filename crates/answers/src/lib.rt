@@ -15,15 +15,17 @@ mod runs;
 mod shown;
 mod why;
 
-pub use campaigns::{campaign_answer, survey_answer, trials_answer, values_survey_answer};
+pub use campaigns::{
+    CountsPlace, campaign_answer, survey_answer, trials_answer, values_survey_answer,
+};
 pub use completion_answers::completion_answer;
 pub use histogram_answers::{live_histogram_answer, seeded_histogram_answer};
-pub use made_answers::{cycles_answer, made_answer};
+pub use made_answers::{CycleChoice, cycles_answer, made_answer};
 pub use outcome_answers::{
-    Condition, LogDetails, condition_answer, log_answer, met_answer, outcomes_answer,
+    Condition, LogDetails, Reply, condition_answer, log_answer, met_answer, outcomes_answer,
     unfinished_answer,
 };
-pub use reduced::{line_answer, reduced_answer};
+pub use reduced::{ViolationForm, line_answer, reduced_answer};
 pub use rendering::{Rendering, long_rendered_answer, rendered_answer};
 pub use runs::{finished, script_answer, seeded_answer};
 pub use shown::shown_answer;

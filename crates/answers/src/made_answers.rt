@@ -48,14 +48,23 @@ fn is_forbidden(alloc: Global, text: &[u8]) -> Result<bool, OutOfMemory>
     Ok(!is_allowed(alloc, &made.recording)?)
 }
 
-/// Whether the line of a cycle is wanted: of each, or of those alone that TSO forbids.
-fn is_wanted(alloc: Global, text: &[u8], forbidden: bool) -> Result<bool, OutOfMemory>
-    ensures { IfOk result (IsWanted forbidden text.now) }
+/// Which critical cycles are listed.
+#[derive(Clone, Copy, Debug, PartialEq, Eq)]
+pub enum CycleChoice {
+    /// Each.
+    Each,
+    /// Those that TSO forbids.
+    Forbidden,
+}
+
+/// Whether the line of a cycle is wanted.
+fn is_wanted(alloc: Global, text: &[u8], choice: CycleChoice) -> Result<bool, OutOfMemory>
+    ensures { IfOk result (IsWanted choice text.now) }
 {
-    if !forbidden {
-        return Ok(true);
+    match choice {
+        CycleChoice::Each => Ok(true),
+        CycleChoice::Forbidden => is_forbidden(alloc, text),
     }
-    is_forbidden(alloc, text)
 }
 
 /// Adds the line of a cycle, if it is wanted.
@@ -63,13 +72,13 @@ fn put_cycle(
     out: &mut Vec<u8>,
     alloc: Global,
     blocks: &[u8],
-    forbidden: bool,
+    choice: CycleChoice,
 ) -> Result<(), OutOfMemory>
-    ensures { OnOk result ((line : List ℕ) × IsPick forbidden blocks.now line
+    ensures { OnOk result ((line : List ℕ) × IsPick choice blocks.now line
         × (out.new.items ≡ out.old.items ++ line)) }
 {
     let mut line = cycle_text(alloc, blocks)?;
-    if !is_wanted(alloc, &line, forbidden)? {
+    if !is_wanted(alloc, &line, choice)? {
         return Ok(());
     }
     line.push(b'\n')?;
@@ -83,34 +92,41 @@ fn put_cycle_at(
     alloc: Global,
     cycles: &[Vec<u8>],
     at: usize,
-    forbidden: bool,
+    choice: CycleChoice,
 ) -> Result<(), OutOfMemory>
     requires { at < length cycles.now }
     ensures { OnOk result ((line : List ℕ)
-        × IsPick forbidden (slice_index_or (map (λ v. v.items) cycles.now) at []) line
+        × IsPick choice (slice_index_or (map (λ v. v.items) cycles.now) at []) line
         × (out.new.items ≡ out.old.items ++ line)) }
 {
-    put_cycle(out, alloc, &cycles[at], forbidden)
+    put_cycle(out, alloc, &cycles[at], choice)
 }
 
 /// The lines of cycles.
-fn cycle_lines(alloc: Global, cycles: &[Vec<u8>], forbidden: bool) -> Result<Vec<u8>, OutOfMemory>
-    ensures { IfOk result (λ text. ArePicked forbidden (map (λ v. v.items) cycles.now) (length cycles.now) text.items) }
+fn cycle_lines(
+    alloc: Global,
+    cycles: &[Vec<u8>],
+    choice: CycleChoice,
+) -> Result<Vec<u8>, OutOfMemory>
+    ensures { IfOk result (λ text. ArePicked choice (map (λ v. v.items) cycles.now) (length cycles.now) text.items) }
 {
     let mut out = Vec::new(alloc);
     for at in 0..cycles.len() {
-        put_cycle_at(&mut out, alloc, cycles, at, forbidden)?;
+        put_cycle_at(&mut out, alloc, cycles, at, choice)?;
     }
     Ok(out)
 }
 
-/// The critical cycles with at most this many events, a line each; of them those alone that TSO forbids, if these are
-/// wanted. Fails only if out of memory.
-pub fn cycles_answer(alloc: Global, events: usize, forbidden: bool) -> Result<Answer, OutOfMemory>
-    ensures { IfOk result (IsListAnswer events forbidden) }
+/// The critical cycles with at most this many events that are chosen, a line each. Fails only if out of memory.
+pub fn cycles_answer(
+    alloc: Global,
+    events: usize,
+    choice: CycleChoice,
+) -> Result<Answer, OutOfMemory>
+    ensures { IfOk result (IsListAnswer events choice) }
 {
     let cycles = critical_cycles(alloc, events)?;
-    let text = cycle_lines(alloc, &cycles, forbidden)?;
+    let text = cycle_lines(alloc, &cycles, choice)?;
     Ok(Answer {
         outcome: Outcome::Done,
         text,

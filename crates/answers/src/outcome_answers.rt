@@ -3,12 +3,12 @@
 ghost use Rattle.std.specs.Prelude.{◌≡◌, ◌++◌, ◌∷◌, [], IfOk, codes};
 ghost use Rattle.answers.specs.LogAnswer.{IsLogAnswer, IsLogReport};
 ghost use Rattle.answers.specs.Outcomes.{IsConditionAnswer, IsOutcomesAnswer, IsText};
-ghost use Rattle.answers.specs.Outcomes.{condition_outcome, condition_text, is_met, log_outcome};
+ghost use Rattle.answers.specs.Outcomes.{condition_outcome, condition_text, is_met, log_outcome, reply_to};
 ghost use Rattle.answers.specs.Why.{IsWhyAsked};
 
 use crate::why::why_text;
 use common::OutOfMemory;
-use outcome_texts::{Report, SeenLine, outcomes_text, report_on};
+use outcome_texts::{Report, SeenLine, UnseenForm, outcomes_text, report_on};
 use outcomes::{Observation, explains, outcomes};
 use program::Program;
 use std::alloc::Global;
@@ -62,12 +62,12 @@ fn log_outcome(forbidden: usize) -> Outcome
     }
 }
 
-/// What is printed of a log beside its lines and how many are allowed.
+/// What is printed of a log beside its lines and how many are allowed and forbidden.
 #[derive(Clone, Copy, Debug, PartialEq, Eq)]
 pub struct LogDetails {
-    /// The outcomes that no line shows.
-    pub unseen: bool,
-    /// What is answered of the values of the first forbidden line that has all reads.
+    /// What is printed of the outcomes that no line shows.
+    pub unseen: UnseenForm,
+    /// Whether what is answered of the values of the first forbidden line that has all reads is printed.
     pub why: bool,
 }
 
@@ -78,11 +78,11 @@ fn why_asked(
     states: usize,
     outcomes: &[outcomes::Outcome],
     lines: &[SeenLine],
-    why: bool,
+    details: LogDetails,
 ) -> Result<Vec<u8>, OutOfMemory>
-    ensures { IfOk result (λ text. IsWhyAsked why states program.now outcomes.now lines.now text.items) }
+    ensures { IfOk result (λ text. IsWhyAsked details.why states program.now outcomes.now lines.now text.items) }
 {
-    if !why {
+    if !details.why {
         return Ok(Vec::new(alloc));
     }
     why_text(alloc, program, states, outcomes, lines)
@@ -100,7 +100,7 @@ fn log_report(
     ensures { IfOk result (IsLogReport program.now states lines.now details outcomes.now) }
 {
     let report = report_on(alloc, program, outcomes, lines, details.unseen)?;
-    let why = why_asked(alloc, program, states, outcomes, lines, details.why)?;
+    let why = why_asked(alloc, program, states, outcomes, lines, details)?;
     let Report {
         mut text,
         forbidden,
@@ -129,14 +129,22 @@ pub fn log_answer(
     }
 }
 
+/// Whether a condition holds, as it is printed.
+#[derive(Clone, Copy, Debug, PartialEq, Eq)]
+pub enum Reply {
+    /// It holds.
+    Yes,
+    /// It does not.
+    No,
+}
+
 /// The answer to a condition. Fails only if out of memory.
-pub fn met_answer(alloc: Global, met: bool) -> Result<Answer, OutOfMemory>
-    ensures { IfOk result (IsText (condition_outcome met) (condition_text met)) }
+pub fn met_answer(alloc: Global, reply: Reply) -> Result<Answer, OutOfMemory>
+    ensures { IfOk result (IsText (condition_outcome reply) (condition_text reply)) }
 {
-    if met {
-        Ok(Answer::of(alloc, Outcome::Done, "Yes\n")?)
-    } else {
-        Ok(Answer::of(alloc, Outcome::Violation, "No\n")?)
+    match reply {
+        Reply::Yes => Ok(Answer::of(alloc, Outcome::Done, "Yes\n")?),
+        Reply::No => Ok(Answer::of(alloc, Outcome::Violation, "No\n")?),
     }
 }
 
@@ -147,6 +155,17 @@ fn is_met(condition: Condition, found: &[outcomes::Outcome], seen: &[Observation
     match condition {
         Condition::Exists => explains(found, seen),
         Condition::Never => !explains(found, seen),
+    }
+}
+
+/// Whether a condition holds of these outcomes, as it is printed.
+fn reply_to(condition: Condition, found: &[outcomes::Outcome], seen: &[Observation]) -> Reply
+    ensures { result ≡ reply_to condition found.now seen.now }
+{
+    if is_met(condition, found, seen) {
+        Reply::Yes
+    } else {
+        Reply::No
     }
 }
 
@@ -162,7 +181,7 @@ pub fn condition_answer(
     ensures { IfOk result (IsConditionAnswer program.now states condition seen.now) }
 {
     match outcomes(alloc, program, states)? {
-        Some(found) => met_answer(alloc, is_met(condition, found.as_slice(), seen)),
+        Some(found) => met_answer(alloc, reply_to(condition, found.as_slice(), seen)),
         None => unfinished_answer(alloc),
     }
 }

@@ -177,16 +177,33 @@ pub fn reduced_answer(
     }
 }
 
-/// The answer to the bytes of one recording: the text of its verdict or the line of its refusal, or with `reduce`
-/// what is left of its violation. Fails only if out of memory.
-pub fn line_answer(alloc: Global, bytes: &[u8], reduce: bool) -> Result<Answer, OutOfMemory>
-    ensures { IfOk result (IsLineAnswer reduce bytes.now) }
+/// How a violation is answered.
+#[derive(Clone, Copy, Debug, PartialEq, Eq)]
+pub enum ViolationForm {
+    /// All of it.
+    Whole,
+    /// What is left of it where the events alone are kept that it needs.
+    Reduced,
+}
+
+/// What is left of the violation that the bytes of one recording are, the text of another verdict, or the line of their
+/// refusal.
+fn reduced_line(alloc: Global, bytes: &[u8]) -> Result<Answer, OutOfMemory>
+    ensures { IfOk result (IsLineAnswer ViolationForm.Reduced bytes.now) }
 {
-    if !reduce {
-        return answer_alone(alloc, bytes);
-    }
     match read_or_refuse(alloc, bytes)? {
         Ok(recording) => reduced_answer(alloc, &recording, None, &Labels::none(alloc)),
         Err(refused) => Ok(refused),
+    }
+}
+
+/// The answer to the bytes of one recording: the text of its verdict, or what is left of its violation where that is to
+/// be reduced, or the line of its refusal. Fails only if out of memory.
+pub fn line_answer(alloc: Global, bytes: &[u8], form: ViolationForm) -> Result<Answer, OutOfMemory>
+    ensures { IfOk result (IsLineAnswer form bytes.now) }
+{
+    match form {
+        ViolationForm::Whole => answer_alone(alloc, bytes),
+        ViolationForm::Reduced => reduced_line(alloc, bytes),
     }
 }

@@ -1,12 +1,12 @@
 //! What is shown of a trial.
 
-ghost use Rattle.std.specs.Prelude.{◌≡◌, ◌<◌, IfOk, IfSome, IfNone, None, Some, true};
+ghost use Rattle.std.specs.Prelude.{◌≡◌, ◌<◌, IfOk, IfSome, IfNone, None, Some};
 ghost use Rattle.machine.specs.Configuration.{Configuration, IsAtEnd, recording_of};
 ghost use Rattle.trials.specs.Judged.{IsJudgedEnd};
 ghost use Rattle.answers.specs.Campaign.{IsShownAnswer, IsShownRun, IsViolation};
 ghost use Rattle.answers.specs.Reduced.{IsCutAnswer};
 
-use crate::reduced::cut_answer;
+use crate::reduced::{ViolationForm, cut_answer};
 use crate::runs::ended;
 use common::OutOfMemory;
 use litmus::print;
@@ -21,16 +21,16 @@ fn cut_end(
     alloc: Global,
     program: &Program,
     judged: &Option<Judged>,
-    reduced: bool,
+    form: ViolationForm,
 ) -> Result<Option<Answer>, OutOfMemory>
     requires { (h : Configuration) × (h.program ≡ program.now) × IsJudgedEnd h judged.now }
-    ensures asked { IfOk result (λ r. IfSome r (λ _. reduced ≡ true)) }
+    ensures asked { IfOk result (λ r. IfSome r (λ _. form ≡ ViolationForm.Reduced)) }
     ensures some { IfOk result (λ r. IfSome r (λ answer. (h : Configuration) → h.program ≡ program.now
         → IsJudgedEnd h judged.now → IsAtEnd h × IsCutAnswer (recording_of h) (Some h.program) None answer)) }
-    ensures none { IfOk result (λ r. IfNone r (reduced ≡ true → (h : Configuration) → h.program ≡ program.now
-        → IsJudgedEnd h judged.now → ¬ IsViolation h.program h.state)) }
+    ensures none { IfOk result (λ r. IfNone r (form ≡ ViolationForm.Reduced → (h : Configuration)
+        → h.program ≡ program.now → IsJudgedEnd h judged.now → ¬ IsViolation h.program h.state)) }
 {
-    if !reduced {
+    if form == ViolationForm::Whole {
         return Ok(None);
     }
     match judged {
@@ -44,12 +44,12 @@ fn cut_end(
 
 /// What is left of the violation in which a run ends, where it is to be reduced, and else its program, an empty line,
 /// and what is answered of the machine in which it ends.
-fn shown_run(alloc: Global, machine: Machine, reduced: bool) -> Result<Answer, OutOfMemory>
-    ensures { IfOk result (IsShownRun machine.fault machine.program machine.state reduced) }
+fn shown_run(alloc: Global, machine: Machine, form: ViolationForm) -> Result<Answer, OutOfMemory>
+    ensures { IfOk result (IsShownRun machine.fault machine.program machine.state form) }
 {
     let program = machine.program().copy(alloc)?;
     let judged = judged_end(alloc, machine)?;
-    match cut_end(alloc, &program, &judged, reduced)? {
+    match cut_end(alloc, &program, &judged, form)? {
         Some(answer) => Ok(answer),
         None => {
             let mut text = print(alloc, &program)?;
@@ -71,11 +71,11 @@ pub fn shown_answer(
     alloc: Global,
     campaign: &Campaign,
     k: usize,
-    reduced: bool,
+    form: ViolationForm,
 ) -> Result<Answer, OutOfMemory>
     requires { k < campaign.now.trials }
-    ensures { IfOk result (IsShownAnswer campaign.now k reduced) }
+    ensures { IfOk result (IsShownAnswer campaign.now k form) }
 {
     let machine = run_trial(alloc, campaign, k)?;
-    shown_run(alloc, machine, reduced)
+    shown_run(alloc, machine, form)
 }

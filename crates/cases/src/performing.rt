@@ -1,7 +1,7 @@
 //! Command lines of cases, performed.
 
 use commands::perform::perform;
-use commands::{asks_for_words, error_text};
+use commands::{Audience, error_text};
 use devices::{Device, Disk};
 use std::alloc::{AllocError, Global};
 use std::io;
@@ -89,8 +89,8 @@ pub fn perform_words<R: Threads + Wait + Sync>(
     let performed = match perform(threads, rt.alloc(), &words, &mut host, &mut out) {
         Ok(outcome) => Ok(outcome),
         Err(error) => {
-            let is_explained = asks_for_words(&words);
-            Err(error_text(rt.alloc(), &words, &error, &host, is_explained)?)
+            let audience = Audience::of_words(&words);
+            Err(error_text(rt.alloc(), &words, &error, &host, audience)?)
         }
     };
     Ok(printed_of(rt.alloc(), &out.into_inner().flushed, performed)?)

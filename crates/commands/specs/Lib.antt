@@ -1,3 +1,4 @@
+pub mod Choices
 pub mod Headed
 pub mod Judge
 pub mod Replay

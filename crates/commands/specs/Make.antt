@@ -13,12 +13,13 @@ use Rattle.answers.specs.Reduced.{shown_text}
 use Rattle.inputs.specs.declared.command_error.CommandError.TheVariants.{OutOfMemory}
 use Rattle.inputs.specs.declared.command_stop.CommandStop.{CommandStop}
 use Rattle.inputs.specs.declared.command_stop.CommandStop.TheVariants.{Refused, Failed}
+use Rattle.commands.specs.Choices.{cycle_choice}
 
 -- the program and the recording that are made of the words, with its verdict; or the lines of critical cycles
 abbrev pub IsMakeAnswer : MakeOptions → Answer → Type 0
 IsMakeAnswer (Cycle words) answer = (m : Made) × IsMade (string_bytes words) m
     × IsVerdictAnswer m.recording (shown_text m.program m.recording) answer
-IsMakeAnswer (All events forbidden) answer = IsListAnswer events forbidden answer
+IsMakeAnswer (All events forbidden) answer = IsListAnswer events (cycle_choice forbidden) answer
 
 -- the line that is printed of words of which nothing is made
 abbrev pub cycle_line : CycleRefusal → List ℕ

@@ -23,6 +23,7 @@ use Rattle.ledger.specs.declared.text_kind.Kind.TheVariants.{Campaign, Survey}
 use Rattle.ledger.specs.Merges.{Refuses}
 use Rattle.ledger.specs.Texts.{AreFiles}
 use Rattle.verdicts.specs.declared.printed.Answer.{Answer}
+use Rattle.answers.specs.declared.campaigns.CountsPlace.TheVariants.{Alone}
 use Rattle.answers.specs.Campaign.{IsTrialsAnswer}
 use Rattle.answers.specs.Survey.{IsSurveyAnswer}
 use Rattle.inputs.specs.declared.command_error.CommandError.{CommandError}
@@ -39,7 +40,7 @@ IsErrorAmong inputs names error =
 -- the counts of a ledger, and how they come out
 abbrev pub IsMergedAnswer : Kind → Ledger → Answer → Type 0
 IsMergedAnswer Campaign l answer = IsTrialsAnswer l answer
-IsMergedAnswer Survey l answer = IsSurveyAnswer false l answer
+IsMergedAnswer Survey l answer = IsSurveyAnswer Alone l answer
 
 -- the texts are those of lists of codes, and whatever lists they are those of, the answer is that of the ledger of them
 -- all joined

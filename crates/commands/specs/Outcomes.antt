@@ -1,5 +1,5 @@
 -- What outcomes answers.
-use Rattle.std.specs.Prelude.{◌≡◌, ◌⊎◌, ◌++◌, ◌∷◌, [], ℕ, Bool, false, List, Option, Ok, Err, codes, decimal}
+use Rattle.std.specs.Prelude.{◌≡◌, ◌⊎◌, ◌++◌, ◌∷◌, [], ℕ, List, Option, Ok, Err, codes, decimal}
 use Rattle.std.specs.Prelude.{string_bytes}
 use Rattle.program.specs.Parts.{Parts}
 use Rattle.command_line.specs.declared.options.OutcomesOptions.{OutcomesOptions}
@@ -16,6 +16,7 @@ use Rattle.outcome_texts.specs.Seen.{Seen}
 use Rattle.verdicts.specs.declared.printed.Answer.{Answer}
 use Rattle.answers.specs.declared.outcome_answers.Condition.{Condition}
 use Rattle.answers.specs.declared.outcome_answers.Condition.TheVariants as condition
+use Rattle.answers.specs.declared.outcome_answers.Reply.TheVariants.{No}
 use Rattle.answers.specs.LogAnswer.{IsLogAnswer}
 use Rattle.answers.specs.Outcomes.{IsConditionAnswer, IsOutcomesAnswer, IsText, IsUnfinished}
 use Rattle.answers.specs.Outcomes.{condition_text}
@@ -23,6 +24,7 @@ use Rattle.recorder.specs.Text.{recording_text}
 use Rattle.recording.specs.Execution.{Execution}
 use Rattle.verdicts.specs.Judgement.{IsOrderedVerdict}
 use Rattle.verdicts.specs.declared.outcome.Outcome.TheVariants.{Done, Violation}
+use Rattle.commands.specs.Choices.{unseen_form}
 use Rattle.commands.specs.Replay.{IsReplayText}
 use Rattle.inputs.specs.declared.command_error.CommandError.TheVariants.{OutOfMemory}
 use Rattle.inputs.specs.declared.command_stop.CommandStop.{CommandStop}
@@ -60,7 +62,7 @@ pub record IsReplayedRecording (x : Execution) (answer : Answer) : Type 0 where
 abbrev pub IsShowAnswer : Parts → ℕ → List Observation → Answer → Type 0
 IsShowAnswer p states seen answer =
     ((o : Outcome) × (x : Execution) × IsFirst p seen o × IsRecordingOf p o x × IsReplayedRecording x answer)
-    ⊎ ((¬ IsExplained p seen × IsText Violation (condition_text false) answer) ⊎ IsUnfinished p states answer)
+    ⊎ ((¬ IsExplained p seen × IsText Violation (condition_text No) answer) ⊎ IsUnfinished p states answer)
 
 -- a recording of the first outcome that has what a condition says
 abbrev pub IsShownOutcome : Parts → ℕ → List ℕ → Answer → Type 0
@@ -72,7 +74,7 @@ abbrev pub IsQuestionAnswer : Inputs → Parts → ℕ → Question → Answer �
 IsQuestionAnswer inputs p states All answer = IsOutcomesAnswer p states answer
 IsQuestionAnswer inputs p states (Observed file unseen why) answer = (lines : List Seen)
     × IsLogAt inputs (string_bytes file) p lines
-    × IsLogAnswer p states lines (record { unseen = unseen; why = why }) answer
+    × IsLogAnswer p states lines (record { unseen = unseen_form unseen; why = why }) answer
 IsQuestionAnswer inputs p states (Exists items) answer =
     IsConditioned p states condition.Exists (string_bytes items) answer
 IsQuestionAnswer inputs p states (Never items) answer =

@@ -10,6 +10,7 @@ use Rattle.command_line.specs.declared.options.RunOptions.{RunOptions}
 use Rattle.command_line.specs.declared.options.TrialsOptions.{TrialsOptions}
 use Rattle.headers.specs.declared.header.Header.{Header}
 use Rattle.headers.specs.Headers.{header_of}
+use Rattle.commands.specs.Choices.{violation_form}
 use Rattle.commands.specs.Headed.{IsHeaded}
 use Rattle.histograms.specs.declared.live_runs.LiveRuns.{LiveRuns}
 use Rattle.histograms.specs.declared.seeded_runs.SeededRuns.{SeededRuns}
@@ -106,4 +107,4 @@ campaign_header o = if o.header then Some (header_of o.campaign) else None
 abbrev pub IsTrials : TrialsOptions → Option ℕ → Answer → Type 0
 IsTrials o None answer = (counts : Answer) × IsCampaignAnswer o.campaign counts
     × IsHeaded (campaign_header o) counts answer
-IsTrials o (Some k) answer = IsShownAnswer o.campaign k o.reduce answer
+IsTrials o (Some k) answer = IsShownAnswer o.campaign k (violation_form o.reduce) answer

@@ -22,6 +22,8 @@ use Rattle.verdicts.specs.declared.printed.Answer.{Answer}
 use Rattle.verdicts.specs.declared.outcome.Outcome.{Outcome}
 use Rattle.verdicts.specs.declared.outcome.Outcome.TheVariants as out
 use Rattle.text_judge.specs.Answer.{IsLongAnswerOf}
+use Rattle.answers.specs.declared.campaigns.CountsPlace.{CountsPlace}
+use Rattle.answers.specs.declared.campaigns.CountsPlace.TheVariants.{Alone}
 use Rattle.answers.specs.Campaign.{ledger_outcome}
 use Rattle.answers.specs.Survey.{IsLineAnswer, empty_line, values_outcome}
 use Rattle.inputs.specs.declared.command_error.CommandError.{CommandError}
@@ -29,6 +31,7 @@ use Rattle.inputs.specs.declared.command_error.CommandError.TheVariants.{TooLong
 use Rattle.inputs.specs.declared.command_stop.CommandStop.{CommandStop}
 use Rattle.inputs.specs.declared.command_stop.CommandStop.TheVariants.{Refused, Failed}
 use Rattle.inputs.specs.Inputs.{Inputs, IsInputError}
+use Rattle.commands.specs.Choices.{violation_form}
 use Rattle.commands.specs.Headed.{IsHeaded}
 
 -- a line of each recording is printed before the input's end
@@ -51,11 +54,11 @@ abbrev pub counts_outcome : Option ℕ → SurveyLedger → Outcome
 counts_outcome None ledger = ledger_outcome out.Refused ledger.ledger
 counts_outcome (Some states) ledger = values_outcome ledger
 
--- an answer with the counts of such lines, which come after lines of recordings or not
-pub record IsCountsAnswer (complete : Option ℕ) (after_lines : Bool) (ledger : SurveyLedger) (answer : Answer)
+-- an answer with the counts of such lines in their place
+pub record IsCountsAnswer (complete : Option ℕ) (place : CountsPlace) (ledger : SurveyLedger) (answer : Answer)
     : Type 0 where
   pub outcome : answer.outcome ≡ counts_outcome complete ledger
-  pub text : answer.text.items ≡ empty_line after_lines ++ counts_text complete ledger
+  pub text : answer.text.items ≡ empty_line place ++ counts_text complete ledger
 
 -- the lines that are surveyed
 abbrev pub range_of : SurveyOptions → LineRange
@@ -98,12 +101,12 @@ pub record IsEachWritten (inputs : Inputs) (o : SurveyOptions) (before after : O
 -- what is answered to one recording: as by judge --long, or by judge, or by reduce
 abbrev pub IsShown : Bool → Bool → List ℕ → Answer → Type 0
 IsShown true reduce line answer = IsLongAnswerOf line answer
-IsShown false reduce line answer = IsLineAnswer reduce line answer
+IsShown false reduce line answer = IsLineAnswer (violation_form reduce) line answer
 
 -- the answer of survey, where no recording is reported, by the one that is to be shown
 abbrev pub IsSurveyOf : Inputs → SurveyOptions → Option ℕ → Answer → Type 0
 IsSurveyOf inputs o None answer = (o.each ≢ true) × (findings : List Finding) × (ledger : SurveyLedger)
-    × IsSurveyed inputs o findings ledger × (counts : Answer) × IsCountsAnswer o.complete false ledger counts
+    × IsSurveyed inputs o findings ledger × (counts : Answer) × IsCountsAnswer o.complete Alone ledger counts
     × IsHeaded (survey_header o) counts answer
 IsSurveyOf inputs o (Some k) answer = (all : List (List ℕ)) × AreLinesOf inputs o all × (line : List ℕ)
     × IsLineAmong all k line × IsShown o.long o.reduce line answer

@@ -8,6 +8,15 @@ use std::io::ErrorKind;
 /// The commands whose lines for an input that can't be read are fixed.
 const FIXED: [&str; 4] = ["run", "judge", "live", "replay"];
 
+/// Whom a text on standard error is for.
+#[derive(Clone, Copy, Debug, PartialEq, Eq)]
+pub enum Audience {
+    /// A script, which knows the fixed lines.
+    Script,
+    /// A person, at a terminal, or who asks for words.
+    Person,
+}
+
 /// Whether words ask that a refusal or an error is explained: `--words`, before `--`.
 pub fn asks_for_words(words: &[String]) -> bool {
     for word in words {
@@ -19,6 +28,17 @@ pub fn asks_for_words(words: &[String]) -> bool {
         }
     }
     false
+}
+
+impl Audience {
+    /// A person, where these words ask for it.
+    pub fn of_words(words: &[String]) -> Audience {
+        if asks_for_words(words) {
+            Audience::Person
+        } else {
+            Audience::Script
+        }
+    }
 }
 
 /// Whether the line for an input that can't be read is a fixed one for these words.
@@ -56,17 +76,16 @@ fn input_text(
     }
 }
 
-/// What standard error says of an error of the command of these words, with its newline. At a terminal, or where the
-/// words ask for it, it has the name of the input and the reason also where the line is fixed. Fails only if out of
-/// memory.
+/// What standard error says of an error of the command of these words, with its newline. For a person it has the name
+/// of the input and the reason also where the line is fixed. Fails only if out of memory.
 pub fn error_text(
     alloc: Global,
     words: &[String],
     error: &CommandError,
     disk: &Disk<'_>,
-    is_explained: bool,
+    audience: Audience,
 ) -> Result<String, AllocError> {
-    if is_explained || !is_fixed(words) {
+    if audience == Audience::Person || !is_fixed(words) {
         if let Some(text) = input_text(alloc, error, disk)? {
             return Ok(text);
         }

@@ -2,6 +2,7 @@
 ghost use Rattle.std.specs.Prelude.{◌≡◌, IfErr, IfOk, string_bytes};
 ghost use Rattle.commands.specs.Make.{IsMakeAnswer, IsMakeStop, cycle_line};
 
+use crate::choices::cycle_choice;
 use answers::{cycles_answer, made_answer};
 use command_line::MakeOptions;
 use cycles::{CycleRefusal, make};
@@ -32,6 +33,8 @@ pub fn make_command(alloc: Global, options: &MakeOptions) -> Result<Answer, Comm
             Ok(made) => Ok(made_answer(alloc, &made)?),
             Err(refusal) => Err(CommandStop::Refused(cycle_refusal(alloc, refusal)?)),
         },
-        MakeOptions::All { events, forbidden } => Ok(cycles_answer(alloc, *events, *forbidden)?),
+        MakeOptions::All { events, forbidden } => {
+            Ok(cycles_answer(alloc, *events, cycle_choice(*forbidden))?)
+        }
     }
 }

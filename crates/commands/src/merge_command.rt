@@ -10,7 +10,7 @@ ghost use Rattle.commands.specs.Merge.{merge_line, merge_refusal_name, missing_l
 ghost use Rattle.headers.specs.Headers.{header_line};
 ghost use Rattle.inputs.specs.Refusal.{IsFailure};
 
-use answers::{survey_answer, trials_answer};
+use answers::{CountsPlace, survey_answer, trials_answer};
 use command_line::MergeOptions;
 use common::OutOfMemory;
 use devices::Host;
@@ -52,7 +52,7 @@ fn merged_answer(alloc: Global, kind: Kind, ledger: &Ledger) -> Result<Answer, O
 {
     match kind {
         Kind::Campaign => trials_answer(alloc, ledger),
-        Kind::Survey => survey_answer(alloc, ledger, false),
+        Kind::Survey => survey_answer(alloc, ledger, CountsPlace::Alone),
     }
 }
 
@@ -320,10 +320,10 @@ fn joined_texts(
 }
 
 /// Whether texts have headers.
-fn is_headed(partial: bool, texts: &[Vec<u8>]) -> bool
-    ensures { result ≡ is_headed partial (map (λ v. v.items) texts.now) }
+fn is_headed(options: &MergeOptions, texts: &[Vec<u8>]) -> bool
+    ensures { result ≡ is_headed options.now.partial (map (λ v. v.items) texts.now) }
 {
-    if partial {
+    if options.partial {
         return true;
     }
     match texts.first() {
@@ -333,10 +333,14 @@ fn is_headed(partial: bool, texts: &[Vec<u8>]) -> bool
 }
 
 /// What is done where seeds or lines are missing between texts.
-fn gaps_of(partial: bool) -> Gaps
-    ensures { result ≡ gaps_of partial }
+fn gaps_of(options: &MergeOptions) -> Gaps
+    ensures { result ≡ gaps_of options.now.partial }
 {
-    if partial { Gaps::Count } else { Gaps::Refuse }
+    if options.partial {
+        Gaps::Count
+    } else {
+        Gaps::Refuse
+    }
 }
 
 /// Adds up the counts of the campaigns, or of the surveys, whose texts the named inputs are.
@@ -354,8 +358,8 @@ pub fn merge_command<H: Host>(
         Ok(texts) => texts,
         Err(stop) => return Err(stop),
     };
-    if is_headed(options.partial, &texts) {
-        return joined_texts(alloc, &options.files, &texts, gaps_of(options.partial));
+    if is_headed(options, &texts) {
+        return joined_texts(alloc, &options.files, &texts, gaps_of(options));
     }
     merged_texts(alloc, &options.files, &texts)
 }

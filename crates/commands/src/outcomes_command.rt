@@ -6,6 +6,7 @@ ghost use Rattle.commands.specs.Outcomes.{IsConditionStop, IsConditioned, IsLogA
 ghost use Rattle.commands.specs.Outcomes.{IsOutcomesStop, IsQuestionAnswer, IsQuestionStop, IsShownOutcome, item_line};
 ghost use Rattle.commands.specs.Outcomes.{question_names};
 
+use crate::choices::unseen_form;
 use crate::shown_outcome::show_answer;
 use answers::{Condition, LogDetails, condition_answer, log_answer, outcomes_answer};
 use command_line::{OutcomesOptions, Question};
@@ -102,7 +103,7 @@ fn question_answer<H: Host>(
         Question::Observed { file, unseen, why } => {
             let lines = log_at(alloc, program, file.as_str(), host)?;
             let details = LogDetails {
-                unseen: *unseen,
+                unseen: unseen_form(*unseen),
                 why: *why,
             };
             Ok(log_answer(alloc, program, states, &lines, details)?)

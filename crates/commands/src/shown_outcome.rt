@@ -6,7 +6,7 @@ ghost use Rattle.recording.specs.Tso.{IsTsoOrder};
 ghost use Rattle.commands.specs.Outcomes.{IsReplayedRecording, IsShowAnswer};
 
 use crate::replay_command::replay_of;
-use answers::{met_answer, unfinished_answer};
+use answers::{Reply, met_answer, unfinished_answer};
 use common::OutOfMemory;
 use judge::judge_alone;
 use outcomes::{Observation, Witness, first_recording};
@@ -47,7 +47,7 @@ pub(crate) fn show_answer(
             recording.sound();
             replayed_recording(alloc, &recording)
         }
-        Witness::Forbidden => met_answer(alloc, false),
+        Witness::Forbidden => met_answer(alloc, Reply::No),
         Witness::Unfinished => unfinished_answer(alloc),
     }
 }

@@ -7,9 +7,10 @@ ghost use Rattle.inputs.specs.Inputs.{ReadsNamed, ReadsInput, is_write_failure};
 ghost use Rattle.commands.specs.Survey.{IsCountsAnswer, IsEachError, IsEachWritten, IsShown, IsSurveyed, IsSurveyOf};
 ghost use Rattle.commands.specs.Survey.{IsSurveyStop, TellsEach, line_kind, lines_counted, range_of, survey_header};
 
+use crate::choices::violation_form;
 use crate::headed::headed;
 use crate::output::write_output;
-use answers::{line_answer, survey_answer, values_survey_answer};
+use answers::{CountsPlace, line_answer, survey_answer, values_survey_answer};
 use command_line::SurveyOptions;
 use common::OutOfMemory;
 use devices::{Host, MemorySink, Sink};
@@ -23,21 +24,21 @@ use std::thread::Threads;
 use surveys::{Finding, LineKind, LineRange, LinesOf, SurveyError, SurveyLedger, line_of, survey};
 
 /// What the lines are.
-fn line_kind(long: bool, complete: Option<usize>) -> LineKind
-    ensures { result ≡ line_kind long complete }
+fn line_kind(options: &SurveyOptions) -> LineKind
+    ensures { result ≡ line_kind options.now.long options.now.complete }
 {
-    match complete {
+    match options.complete {
         Some(states) => LineKind::Values(states),
-        None if long => LineKind::LongRecording,
+        None if options.long => LineKind::LongRecording,
         None => LineKind::Recording,
     }
 }
 
 /// Whose counts a header is.
-fn lines_counted(long: bool) -> Counted
-    ensures { result ≡ lines_counted long }
+fn lines_counted(options: &SurveyOptions) -> Counted
+    ensures { result ≡ lines_counted options.now.long }
 {
-    if long {
+    if options.long {
         Counted::LongSurvey
     } else {
         Counted::Survey
@@ -45,13 +46,13 @@ fn lines_counted(long: bool) -> Counted
 }
 
 /// What is answered to one recording.
-fn shown(alloc: Global, long: bool, reduce: bool, line: &[u8]) -> Result<Answer, OutOfMemory>
-    ensures { IfOk result (IsShown long reduce line.now) }
+fn shown(alloc: Global, options: &SurveyOptions, line: &[u8]) -> Result<Answer, OutOfMemory>
+    ensures { IfOk result (IsShown options.now.long options.now.reduce line.now) }
 {
-    if long {
+    if options.long {
         long_answer(alloc, line)
     } else {
-        line_answer(alloc, line, reduce)
+        line_answer(alloc, line, violation_form(options.reduce))
     }
 }
 
@@ -60,13 +61,13 @@ fn counts_answer(
     alloc: Global,
     complete: Option<usize>,
     ledger: &SurveyLedger,
-    after_lines: bool,
+    place: CountsPlace,
 ) -> Result<Answer, OutOfMemory>
-    ensures { IfOk result (IsCountsAnswer complete after_lines ledger.now) }
+    ensures { IfOk result (IsCountsAnswer complete place ledger.now) }
 {
     match complete {
-        Some(_) => values_survey_answer(alloc, ledger, after_lines),
-        None => survey_answer(alloc, &ledger.ledger, after_lines),
+        Some(_) => values_survey_answer(alloc, ledger, place),
+        None => survey_answer(alloc, &ledger.ledger, place),
     }
 }
 
@@ -92,7 +93,7 @@ fn survey_header(options: &SurveyOptions) -> Option<Header>
         _ => return None,
     };
     Some(Header {
-        counted: lines_counted(options.long),
+        counted: lines_counted(options),
         first: options.from as u64,
         count: count as u64,
     })
@@ -118,7 +119,7 @@ fn counted<R: Threads + Wait + Sync, H: Host, W: Sink>(
     let input = opened(alloc, host, options.file.as_str())?;
     let mut lines = LinesOf::new(input, range_of(options));
     let progress = host.progress(None, options.quiet);
-    let kind = line_kind(options.long, options.complete);
+    let kind = line_kind(options);
     let surveyed = survey(
         rt,
         alloc,
@@ -157,7 +158,7 @@ pub fn each_command<R: Threads + Wait + Sync, H: Host, W: Sink>(
     ensures writes { FailsBy is_write_failure (W.write_failed out.old) (W.write_failed out.new) result }
 {
     let ledger = counted(rt, alloc, options, host, out, true)?;
-    let counts = counts_answer(alloc, options.complete, &ledger, true)?;
+    let counts = counts_answer(alloc, options.complete, &ledger, CountsPlace::AfterLines)?;
     write_output(out, &counts)
 }
 
@@ -180,7 +181,7 @@ pub fn survey_command<R: Threads + Wait + Sync, H: Host>(
             let line = line_of(alloc, &mut lines, k);
             host.take_back(lines.into_source());
             match line {
-                Ok(Some(line)) => Ok(shown(alloc, options.long, options.reduce, line.as_slice())?),
+                Ok(Some(line)) => Ok(shown(alloc, options, line.as_slice())?),
                 Ok(None) => Err(CommandStop::of_name(alloc, K11.name)),
                 Err(SurveyError::ReadFailed) => Err(CommandStop::Failed(CommandError::ReadFailed)),
                 Err(SurveyError::WriteFailed) => unreachable!(),
@@ -193,7 +194,7 @@ pub fn survey_command<R: Threads + Wait + Sync, H: Host>(
         None => {
             let mut out = MemorySink::new(alloc);
             let ledger = counted(rt, alloc, options, host, &mut out, false)?;
-            let counts = counts_answer(alloc, options.complete, &ledger, false)?;
+            let counts = counts_answer(alloc, options.complete, &ledger, CountsPlace::Alone)?;
             Ok(headed(alloc, survey_header(options), counts)?)
         }
     }

@@ -6,6 +6,7 @@ ghost use Rattle.inputs.specs.declared.command_error.CommandError.TheVariants as
 ghost use Rattle.inputs.specs.declared.command_stop.CommandStop.TheVariants.{Failed};
 ghost use Rattle.commands.specs.Run.{IsTrials, campaign_header};
 
+use crate::choices::violation_form;
 use crate::headed::headed;
 use answers::{campaign_answer, shown_answer};
 use command_line::TrialsOptions;
@@ -41,7 +42,7 @@ pub fn trials_command<R: Threads + Wait + Sync, H: Host>(
     ensures err { IfErr result (λ stop. stop ≡ Failed error.OutOfMemory) }
 {
     match options.show {
-        Some(k) => Ok(shown_answer(alloc, &options.campaign, k, options.reduce)?),
+        Some(k) => Ok(shown_answer(alloc, &options.campaign, k, violation_form(options.reduce))?),
         None => {
             let progress = host.progress(Some(options.campaign.trials()), options.quiet);
             let counts = campaign_answer(rt, alloc, &options.campaign, options.workers, &progress)?;

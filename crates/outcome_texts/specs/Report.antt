@@ -1,10 +1,12 @@
 -- The report on what was observed: whether TSO allows each line of a log, and which outcomes no line shows.
-use Rattle.std.specs.Prelude.{◌++◌, ◌∷◌, ℕ, Bool, true, false, not, if◌then◌else◌, List, [], codes, decimal, length}
+use Rattle.std.specs.Prelude.{◌++◌, ◌∷◌, ℕ, Bool, true, false, not, List, [], codes, decimal, length}
 use Rattle.std.specs.Prelude.{count_by, filter}
 use Rattle.std.specs.List.{flat_map, list_any}
 use Rattle.program.specs.Parts.{Parts}
 use Rattle.outcomes.specs.Outcome.{Outcome}
 use Rattle.outcomes.specs.Observed.{explains, shows_all}
+use Rattle.outcome_texts.specs.declared.report.UnseenForm.{UnseenForm}
+use Rattle.outcome_texts.specs.declared.report.UnseenForm.TheVariants.{Count, Lines}
 use Rattle.outcome_texts.specs.Seen.{Seen}
 use Rattle.outcome_texts.specs.OutcomeText.{outcome_text}
 
@@ -47,11 +49,16 @@ unseen os lines = filter (is_unseen lines) os
 abbrev pub total_line : List ℕ → ℕ → List ℕ
 total_line name n = (name ++ decimal n) ++ 10 ∷ []
 
+-- of the lines of outcomes that no line shows: what is printed of them
+abbrev pub unseen_lines : UnseenForm → List ℕ → List ℕ
+unseen_lines Count text = []
+unseen_lines Lines text = text
+
 -- a line for each of the log's, the totals, and the outcomes that no line shows where they are asked for
-abbrev pub report_text : Bool → Parts → List Outcome → List Seen → List ℕ
-report_text whole p os lines =
+abbrev pub report_text : UnseenForm → Parts → List Outcome → List Seen → List ℕ
+report_text form p os lines =
     flat_map (seen_line os) lines
     ++ (total_line (codes "allowed: ") (allowed_count os lines)
     ++ (total_line (codes "forbidden: ") (forbidden_count os lines)
     ++ (total_line (codes "unseen: ") (length (unseen os lines))
-    ++ (if whole then flat_map (outcome_text p) (unseen os lines) else []))))
+    ++ unseen_lines form (flat_map (outcome_text p) (unseen os lines)))))

@@ -14,7 +14,7 @@ mod words;
 
 pub use line::items_of;
 pub use log::log_says;
-pub use report::{Report, report_on};
+pub use report::{Report, UnseenForm, report_on};
 pub use saying::condition_of;
 pub use seen::SeenLine;
 pub use text::outcomes_text;

@@ -1,10 +1,10 @@
 //! The report on what was observed.
 
-ghost use Rattle.std.specs.Prelude.{◌≡◌, ◌++◌, ◌∷◌, [], IfOk, OnOk, codes, if◌then◌else◌, length};
+ghost use Rattle.std.specs.Prelude.{◌≡◌, ◌++◌, ◌∷◌, [], IfOk, OnOk, codes, length};
 ghost use Rattle.std.specs.List.{flat_map};
 ghost use Rattle.outcome_texts.specs.OutcomeText.{outcome_text};
 ghost use Rattle.outcome_texts.specs.Report.{allowed_count, forbidden_count, is_explained, is_shown, report_text};
-ghost use Rattle.outcome_texts.specs.Report.{seen_line, total_line, unseen, verdict_word};
+ghost use Rattle.outcome_texts.specs.Report.{seen_line, total_line, unseen, unseen_lines, verdict_word};
 
 use crate::seen::SeenLine;
 use crate::text::put_outcome;
@@ -120,16 +120,25 @@ fn put_total(out: &mut Vec<u8>, name: &[u8], number: usize) -> Result<(), OutOfM
     Ok(())
 }
 
+/// What is printed of the outcomes that no line shows.
+#[derive(Clone, Copy, Debug, PartialEq, Eq)]
+pub enum UnseenForm {
+    /// How many they are.
+    Count,
+    /// How many they are, and their lines.
+    Lines,
+}
+
 /// Adds how many outcomes no line shows, and their lines where they are asked for.
-fn put_unseen(out: &mut Vec<u8>, unseen: &Unseen, whole: bool) -> Result<(), OutOfMemory>
+fn put_unseen(out: &mut Vec<u8>, unseen: &Unseen, form: UnseenForm) -> Result<(), OutOfMemory>
     ensures { OnOk result (out.new.items ≡ out.old.items ++ (total_line (codes "unseen: ") unseen.now.count
-        ++ (if whole then unseen.now.text.items else []))) }
+        ++ unseen_lines form unseen.now.text.items)) }
 {
     put_total(out, b"unseen: ", unseen.count)?;
-    if whole {
-        return put_text(out, &unseen.text);
+    match form {
+        UnseenForm::Count => Ok(()),
+        UnseenForm::Lines => put_text(out, &unseen.text),
     }
-    Ok(())
 }
 
 /// What is reported on a log.
@@ -142,15 +151,15 @@ pub struct Report {
 }
 
 /// A line for each of the log's, how many are allowed and how many forbidden, and how many outcomes no line shows, with
-/// their lines if `whole`. Fails only if out of memory.
+/// their lines where they are asked for. Fails only if out of memory.
 pub fn report_on(
     alloc: Global,
     program: &Program,
     outcomes: &[Outcome],
     lines: &[SeenLine],
-    whole: bool,
+    form: UnseenForm,
 ) -> Result<Report, OutOfMemory>
-    ensures text { IfOk result (λ r. r.text.items ≡ report_text whole program.now outcomes.now lines.now) }
+    ensures text { IfOk result (λ r. r.text.items ≡ report_text form program.now outcomes.now lines.now) }
     ensures forbidden { IfOk result (λ r. r.forbidden ≡ forbidden_count outcomes.now lines.now) }
 {
     let mut text = Vec::new(alloc);
@@ -158,7 +167,7 @@ pub fn report_on(
     put_total(&mut text, b"allowed: ", counts.allowed)?;
     put_total(&mut text, b"forbidden: ", counts.forbidden)?;
     let unseen = unseen_outcomes(alloc, program, outcomes, lines)?;
-    put_unseen(&mut text, &unseen, whole)?;
+    put_unseen(&mut text, &unseen, form)?;
     Ok(Report {
         text,
         forbidden: counts.forbidden,

@@ -3,7 +3,7 @@
 ghost use Rattle.std.specs.Prelude.{IfOk};
 ghost use Rattle.tsotest_library.specs.Given.{IsOutcomeOf};
 
-use answers::survey_answer;
+use answers::{CountsPlace, survey_answer};
 use common::OutOfMemory;
 use ledger::Ledger;
 use std::alloc::Global;
@@ -14,6 +14,6 @@ pub(crate) fn outcome_of(alloc: Global, codes: &[u64]) -> Result<Outcome, OutOfM
     ensures { IfOk result (IsOutcomeOf codes.now) }
 {
     let ledger = Ledger::count(alloc, codes)?;
-    let answer = survey_answer(alloc, &ledger, false)?;
+    let answer = survey_answer(alloc, &ledger, CountsPlace::Alone)?;
     Ok(answer.outcome)
 }

@@ -5,16 +5,16 @@ use Rattle.answers.proofs.made_answers.put_cycle.Goals as goal
 
 pub returns-then-not-branch : goal.returns-then-not-branch
 returns-then-not-branch c =
-    let said = subst (λ (t : List ℕ). IsWanted c.args.forbidden t c.in_ok-is_wanted.field-0)
+    let said = subst (λ (t : List ℕ). IsWanted c.args.choice t c.in_ok-is_wanted.field-0)
     (c.deref.ensures.value ∙ c.in_ok-line.ensures) c.in_ok-is_wanted.ensures in
-    let wanted = subst (λ (b : Bool). IsWanted c.args.forbidden (cycle_text c.args.blocks.now) b) c.if-not-branch.true said in
+    let wanted = subst (λ (b : Bool). IsWanted c.args.choice (cycle_text c.args.blocks.now) b) c.if-not-branch.true said in
     ([], (false, wanted, refl), sym (append-nil c.args.out.now.items))
 
 pub returns : goal.returns
 returns c =
-    let said = subst (λ (t : List ℕ). IsWanted c.args.forbidden t c.in_ok-is_wanted.field-0)
+    let said = subst (λ (t : List ℕ). IsWanted c.args.choice t c.in_ok-is_wanted.field-0)
     (c.deref.ensures.value ∙ c.in_ok-line.ensures) c.in_ok-is_wanted.ensures in
-    let wanted = subst (λ (b : Bool). IsWanted c.args.forbidden (cycle_text c.args.blocks.now) b) c.if-not-branch.false said in
+    let wanted = subst (λ (b : Bool). IsWanted c.args.choice (cycle_text c.args.blocks.now) b) c.if-not-branch.false said in
     let line = c.deref-2.ensures.value
     ∙ (c.in_ok-push.ensures.items ∙ ap (λ (l : List ℕ). l ++ 10 ∷ []) c.in_ok-line.ensures) in (
       cycle_line c.args.blocks.now,
