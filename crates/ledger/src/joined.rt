@@ -215,9 +215,7 @@ fn join_ordered(
             line: 1,
         });
     };
-    let Ok(texts) = texts(alloc, order) else {
-        return Err(MergeError::OutOfMemory);
-    };
+    let texts = texts(alloc, order)?;
     let mut merged = match merge_texts(alloc, &texts) {
         Ok(merged) => merged,
         Err(error) => return Err(placed(error, order, files)),

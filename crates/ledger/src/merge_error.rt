@@ -79,3 +79,14 @@ pub enum MergeError {
     /// There is no memory.
     OutOfMemory,
 }
+
+impl From<OutOfMemory> for MergeError {
+    ghost use Rattle.std.specs.Prelude.{◌≡◌};
+    ghost use Rattle.ledger.specs.declared.merge_error.MergeError.TheVariants.{OutOfMemory};
+
+    ghost from_gives = { λ _ e. e ≡ OutOfMemory };
+
+    fn from(_refused: OutOfMemory) -> MergeError {
+        MergeError::OutOfMemory
+    }
+}

@@ -108,9 +108,7 @@ pub(crate) fn merge_texts(alloc: Global, files: &[&[u8]]) -> Result<Merged, Merg
     ensures err { IfErr result (IsMergingError (map (λ v. v.now) files.now)) }
 {
     let kind = Kind::of(text_at(files, 0));
-    let Ok(mut sum) = Ledger::count(alloc, &[]) else {
-        return Err(MergeError::OutOfMemory);
-    };
+    let mut sum = Ledger::count(alloc, &[])?;
     for i in 0..files.len() {
         let bytes = text_at(files, i);
         if let Err(fault) = add_file(alloc, kind, &mut sum, bytes) {
@@ -138,8 +136,6 @@ pub fn merge(alloc: Global, files: &[Vec<u8>]) -> Result<Merged, MergeError>
     ensures ok { IfOk result (IsMerge (map (λ v. v.items) files.now)) }
     ensures err { IfErr result (IsMergingError (map (λ v. v.items) files.now)) }
 {
-    let Ok(texts) = slices(alloc, files) else {
-        return Err(MergeError::OutOfMemory);
-    };
+    let texts = slices(alloc, files)?;
     merge_texts(alloc, &texts)
 }

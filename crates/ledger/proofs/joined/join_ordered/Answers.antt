@@ -27,7 +27,7 @@ returns-clause-ok c =
       kind = c.in-Ok-merge_texts.merged.kind;
       whole = c.in-Ok-merge_texts.merged.ledger;
       merge = subst (λ (l : List (List ℕ)). IsMerge l c.in-Ok-merge_texts.merged)
-          (ap (λ l. map (λ t. t.now) l) c.deref.ensures.value ∙ c.in-Ok-texts.ensures) c.in-Ok-merge_texts.ensures.ok;
+          (ap (λ l. map (λ t. t.now) l) c.deref.ensures.value ∙ c.in_ok-texts.ensures) c.in-Ok-merge_texts.ensures.ok;
       ledger = c.tell.ensures;
     }
 

@@ -22,7 +22,7 @@ loop-i-preserved c =
     let bytes = c.text_at-bytes.ensures in
     file_more c.of-kind.result c.loop-i.sum c.add_file.new.sum files c.loop-i.i (omega (arith, some)) c.loop-i.invariant
     (subst (λ (l : List ℕ). IsFileAdded c.of-kind.result c.loop-i.sum c.add_file.new.sum l) bytes
-    c.in_default-add_file.ensures.ok)
+    c.in_default.ensures.ok)
 
 pub returns-clause-ok : goal.returns-clause-ok
 returns-clause-ok c =
