@@ -4,9 +4,10 @@ ghost use Rattle.std.specs.Prelude.{◌≡◌, IfOk, IfSome, option_map};
 ghost use Rattle.recording.specs.Recording.{IsShortRecording};
 ghost use Rattle.verdicts.specs.Judgement.{IsVerdict};
 ghost use Rattle.verdicts.specs.Verified.{Verifies};
-ghost use Rattle.long.specs.Answer.{IsLongAnswer, IsWitness};
+ghost use Rattle.long.specs.Answer.{IsLongAnswer, IsWitness, without_labels};
 ghost use Rattle.answers.specs.Rendered.{IsLongPicture, IsLongRenderedAnswer, IsPicture, IsRenderedAnswer};
-ghost use Rattle.answers.specs.Rendered.{IsWholeDrawing, addresses_of, names_of};
+ghost use Rattle.answers.specs.Rendered.{IsLongRendering, IsRendering, IsWholeDrawing, addresses_of, names_of};
+ghost use Rattle.explanation.specs.Explanation.{IsExplanation};
 ghost use Rattle.program_events.specs.ProgramOf.{IsProgramOf};
 
 use crate::long_answers::{answered, long_reduced_answer};
@@ -118,6 +119,66 @@ fn long_picture_text(
     }
 }
 
+/// The verdict on a recording in words, with these names.
+fn explained_answer(
+    alloc: Global,
+    recording: &Recording,
+    names: &Names,
+) -> Result<Answer, OutOfMemory>
+    requires { IsShortRecording recording.now }
+    ensures { IfOk result (IsRendering (λ v. IsExplanation recording.now names.now (without_labels v)) recording.now) }
+{
+    let verdict = judge_alone(alloc, recording)?;
+    let outcome = outcome_of(&verdict);
+    let text = explanation_text(alloc, recording, names, &without_labels(verdict))?;
+    Ok(Answer { outcome, text })
+}
+
+/// The verdict on a recording as a picture, with these names.
+fn drawn_answer(
+    alloc: Global,
+    all: bool,
+    recording: &Recording,
+    names: &Names,
+) -> Result<Answer, OutOfMemory>
+    requires { IsShortRecording recording.now }
+    ensures { IfOk result (IsRendering (IsPicture all recording.now names.now) recording.now) }
+{
+    let verdict = judge_alone(alloc, recording)?;
+    let outcome = outcome_of(&verdict);
+    let text = picture_text(alloc, all, recording, names, verdict)?;
+    Ok(Answer { outcome, text })
+}
+
+/// What is answered to a recording of any length in words, with these names.
+fn explained_long_answer(
+    alloc: Global,
+    recording: &Recording,
+    names: &Names,
+) -> Result<Answer, OutOfMemory>
+    ensures { IfOk result (IsLongRendering (IsExplanation recording.now names.now) recording.now) }
+{
+    let answer = answered(alloc, recording)?;
+    let text = explanation_text(alloc, recording, names, &answer)?;
+    let outcome = long_outcome(&answer);
+    Ok(Answer { outcome, text })
+}
+
+/// What is answered to a recording of any length as a picture, with these names.
+fn drawn_long_answer(
+    alloc: Global,
+    all: bool,
+    recording: &Recording,
+    names: &Names,
+) -> Result<Answer, OutOfMemory>
+    ensures { IfOk result (IsLongRendering (IsLongPicture all recording.now names.now) recording.now) }
+{
+    let answer = answered(alloc, recording)?;
+    let text = long_picture_text(alloc, all, recording, names, &answer)?;
+    let outcome = long_outcome(&answer);
+    Ok(Answer { outcome, text })
+}
+
 /// The names that the program of a recording gives its addresses; none without a program.
 fn addresses_of(alloc: Global, program: Option<&Program>) -> Result<IndexSet<Name>, OutOfMemory>
     ensures { IfOk result (λ names. names.keys ≡ addresses_of (option_map (λ p. p.now) program.entry)) }
@@ -153,17 +214,11 @@ pub fn rendered_answer(
     match rendering {
         Rendering::Words => {
             let names = names_of(alloc, program, labels)?;
-            let verdict = judge_alone(alloc, recording)?;
-            let outcome = outcome_of(&verdict);
-            let text = explanation_text(alloc, recording, &names, &without_labels(verdict))?;
-            Ok(Answer { outcome, text })
+            explained_answer(alloc, recording, &names)
         }
         Rendering::Picture { all } => {
             let names = names_of(alloc, program, labels)?;
-            let verdict = judge_alone(alloc, recording)?;
-            let outcome = outcome_of(&verdict);
-            let text = picture_text(alloc, all, recording, &names, verdict)?;
-            Ok(Answer { outcome, text })
+            drawn_answer(alloc, all, recording, &names)
         }
         Rendering::Reduction => reduced_answer(alloc, recording, program, &labels),
     }
@@ -183,17 +238,11 @@ pub fn long_rendered_answer(
     match rendering {
         Rendering::Words => {
             let names = names_of(alloc, None, labels)?;
-            let answer = answered(alloc, recording)?;
-            let text = explanation_text(alloc, recording, &names, &answer)?;
-            let outcome = long_outcome(&answer);
-            Ok(Answer { outcome, text })
+            explained_long_answer(alloc, recording, &names)
         }
         Rendering::Picture { all } => {
             let names = names_of(alloc, None, labels)?;
-            let answer = answered(alloc, recording)?;
-            let text = long_picture_text(alloc, all, recording, &names, &answer)?;
-            let outcome = long_outcome(&answer);
-            Ok(Answer { outcome, text })
+            drawn_long_answer(alloc, all, recording, &names)
         }
         Rendering::Reduction => long_reduced_answer(alloc, recording, &labels),
     }

@@ -2,15 +2,11 @@ use Rattle.std.proofs.Common.{subst, sym}
 use Rattle.long.specs.declared.answer.LongAnswer.{LongAnswer}
 use Rattle.long.specs.Answer.{IsWitness}
 use Rattle.long.specs.AnswerLaws.{verdict_holds}
-use Rattle.answers.proofs.rendering.rendered_answer.Goals as goal
+use Rattle.answers.proofs.rendering.explained_answer.Goals as goal
 
 pub judge_alone-requires : goal.judge_alone-requires
-judge_alone-requires c = c.requires.short.within.few_events
-
-pub judge_alone-requires-in-Picture : goal.judge_alone-requires-in-Picture
-judge_alone-requires-in-Picture c = c.requires.short.within.few_events
+judge_alone-requires c = c.requires.within.few_events
 
 pub explanation_text-requires : goal.explanation_text-requires
 explanation_text-requires c = subst (λ (a : LongAnswer). IsWitness c.args.recording.now a) (sym c.without_labels.ensures)
-    (verdict_holds c.args.recording.now c.in_ok-verdict-in-Words.verdict
-    c.in_ok-verdict-in-Words.ensures.verified)
+    (verdict_holds c.args.recording.now c.in_ok-verdict.verdict c.in_ok-verdict.ensures.verified)
