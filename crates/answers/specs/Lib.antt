@@ -1,5 +1,4 @@
 pub mod Rendered
-pub mod Run
 pub mod Reduced
 pub mod LongReduced
 pub mod Campaign
@@ -10,5 +9,4 @@ pub mod Circles
 pub mod Part
 pub mod Completion
 pub mod Why
-pub mod Histogram
 pub mod Cycles

@@ -1,16 +1,13 @@
-//! What is answered of campaigns and of surveys.
+//! What is answered of the counts of campaigns and of surveys.
 
-ghost use Rattle.std.specs.Prelude.{◌≡◌, ◌≤◌, ◌++◌, IfOk};
+ghost use Rattle.std.specs.Prelude.{◌≡◌, ◌++◌, IfOk};
 ghost use Rattle.verdicts.specs.declared.outcome.Outcome.TheVariants.{Unfinished};
-ghost use Rattle.answers.specs.Campaign.{IsCampaignAnswer, IsTrialsAnswer, ledger_outcome};
+ghost use Rattle.answers.specs.Campaign.{IsTrialsAnswer, ledger_outcome};
 ghost use Rattle.answers.specs.Survey.{IsSurveyAnswer, IsValuesSurveyAnswer, empty_line, values_outcome};
 
-use common::{Gate, MAX_WORKERS, OutOfMemory};
-use ledger::{SurveyLedger, campaign_text, survey_text, values_survey_text};
+use common::OutOfMemory;
+use ledger::{Ledger, SurveyLedger, campaign_text, survey_text, values_survey_text};
 use std::alloc::Global;
-use std::sync::Wait;
-use std::thread::Threads;
-use trials::{Campaign, Ledger, run_campaign};
 use verdicts::{Answer, Outcome};
 
 /// Where the counts of a survey stand.
@@ -43,24 +40,6 @@ pub fn trials_answer(alloc: Global, ledger: &Ledger) -> Result<Answer, OutOfMemo
     let text = campaign_text(alloc, ledger)?;
     let outcome = outcome_of(ledger, Outcome::Unfinished);
     Ok(Answer { outcome, text })
-}
-
-/// The answer to the ledger of all trials of a campaign, by 1 to `MAX_WORKERS` workers; the gate hears of each
-/// claim, each violation and each filing. Fails only if out of memory.
-pub fn campaign_answer<R: Threads + Wait + Sync, G: Gate>(
-    rt: &R,
-    alloc: Global,
-    campaign: &Campaign,
-    workers: usize,
-    gate: &G,
-) -> Result<Answer, OutOfMemory>
-    requires { (1 ≤ workers) × (workers ≤ MAX_WORKERS) }
-    ensures { IfOk result (IsCampaignAnswer campaign.now) }
-{
-    let Ok(ledger) = run_campaign(rt, alloc, campaign, workers, gate) else {
-        return Err(OutOfMemory);
-    };
-    trials_answer(alloc, &ledger)
 }
 
 /// What stands between counts and what comes before them.

@@ -130,7 +130,7 @@ fn program_left(
 /// left of the given one, an empty line, and its recording with the verdict on it, after the numbers of
 /// its events and their labels where these are asked for; none where the verdict is an order. Fails only if out of
 /// memory.
-pub(crate) fn cut_answer(
+pub fn cut_answer(
     alloc: Global,
     recording: &Recording,
     program: Option<&Program>,

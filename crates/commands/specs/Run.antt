@@ -2,9 +2,9 @@
 use Rattle.std.specs.Prelude.{◌≡◌, ◌⊎◌, ℕ, List, Option, Some, None, Ok, if◌then◌else◌, length, option_map}
 use Rattle.std.specs.Prelude.{string_bytes, ⊤}
 use Rattle.verdicts.specs.declared.printed.Answer.{Answer}
-use Rattle.answers.specs.Campaign.{IsCampaignAnswer, IsShownAnswer}
-use Rattle.answers.specs.Histogram.{IsLiveHistogramAnswer, IsSeededHistogramAnswer}
-use Rattle.answers.specs.Run.{IsRunAnswer, IsSeededAnswer, script_state}
+use Rattle.run_answers.specs.Campaign.{IsCampaignAnswer, IsShownAnswer}
+use Rattle.run_answers.specs.Histogram.{IsLiveHistogramAnswer, IsSeededHistogramAnswer}
+use Rattle.run_answers.specs.Run.{IsRunAnswer, IsSeededAnswer, script_state}
 use Rattle.command_line.specs.declared.options.LiveOptions.{LiveOptions}
 use Rattle.command_line.specs.declared.options.RunOptions.{RunOptions}
 use Rattle.command_line.specs.declared.options.TrialsOptions.{TrialsOptions}

@@ -4,7 +4,7 @@ ghost use Rattle.inputs.specs.Inputs.{ReadsNamed};
 ghost use Rattle.live.specs.Driven.{IsDriveError};
 ghost use Rattle.commands.specs.Run.{IsLive, IsLiveAnswer, IsLiveStop};
 
-use answers::{finished, live_histogram_answer};
+use run_answers::{finished, live_histogram_answer};
 use command_line::LiveOptions;
 use common::OpenGate;
 use devices::Host;

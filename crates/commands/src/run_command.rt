@@ -7,7 +7,7 @@ ghost use Rattle.commands.specs.Command.{input_names, script_name};
 ghost use Rattle.command_line.specs.declared.options.Options.{Options};
 ghost use Rattle.commands.specs.Run.{IsRun, IsRunStop, IsScriptAnswer, IsScriptStop};
 
-use answers::{script_answer, seeded_answer, seeded_histogram_answer};
+use run_answers::{script_answer, seeded_answer, seeded_histogram_answer};
 use command_line::RunOptions;
 use devices::Host;
 use histograms::SeededRuns;

@@ -8,7 +8,7 @@ ghost use Rattle.commands.specs.Run.{IsTrials, campaign_header};
 
 use crate::choices::violation_form;
 use crate::headed::headed;
-use answers::{campaign_answer, shown_answer};
+use run_answers::{campaign_answer, shown_answer};
 use command_line::TrialsOptions;
 use devices::Host;
 use headers::Header;

@@ -2,8 +2,8 @@ use Rattle.std.proofs.Common.{subst, ap, ◌∙◌}
 use Rattle.std.proofs.lemmas.Result.{IfOk-weaker}
 use Rattle.machine.specs.Configuration.{Configuration}
 use Rattle.trials.specs.Judged.{ran}
-use Rattle.answers.specs.Run.{IsRunAnswer}
-use Rattle.answers.proofs.runs.script_answer.Goals as goal
+use Rattle.run_answers.specs.Run.{IsRunAnswer}
+use Rattle.run_answers.proofs.runs.script_answer.Goals as goal
 
 pub returns : goal.returns
 returns c =

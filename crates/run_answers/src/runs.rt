@@ -3,7 +3,7 @@
 ghost use Rattle.std.specs.Prelude.{IfOk};
 ghost use Rattle.machine.specs.Configuration.{Configuration};
 ghost use Rattle.trials.specs.Judged.{IsJudgedEnd};
-ghost use Rattle.answers.specs.Run.{IsRunAnswer, IsSeededAnswer, script_state};
+ghost use Rattle.run_answers.specs.Run.{IsRunAnswer, IsSeededAnswer, script_state};
 
 use common::OutOfMemory;
 use machine::{Machine, Step};

@@ -16,8 +16,8 @@ use Rattle.verdicts.specs.VerdictText.{IsVerdictText}
 use Rattle.verdicts.specs.declared.printed.Answer.{Answer}
 use Rattle.verdicts.specs.declared.outcome.Outcome.TheVariants as outcome
 use Rattle.verdicts.specs.VerdictAnswer.{IsVerdictAnswer, outcome_of}
-use Rattle.answers.specs.Run.{IsOrderedAnswer, IsRunAnswer}
-use Rattle.answers.proofs.runs.ended.Goals as goal
+use Rattle.run_answers.specs.Run.{IsOrderedAnswer, IsRunAnswer}
+use Rattle.run_answers.proofs.runs.ended.Goals as goal
 
 -- what TSO allows has its least order
 ordered_answer : (x : Execution) (m : List ℕ) (answer : Answer) → IsTsoOrder x m

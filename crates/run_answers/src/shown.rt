@@ -3,11 +3,11 @@
 ghost use Rattle.std.specs.Prelude.{◌≡◌, ◌<◌, IfOk, IfSome, IfNone, None, Some};
 ghost use Rattle.machine.specs.Configuration.{Configuration, IsAtEnd, recording_of};
 ghost use Rattle.trials.specs.Judged.{IsJudgedEnd};
-ghost use Rattle.answers.specs.Campaign.{IsShownAnswer, IsShownRun, IsViolation};
+ghost use Rattle.run_answers.specs.Campaign.{IsShownAnswer, IsShownRun, IsViolation};
 ghost use Rattle.answers.specs.Reduced.{IsCutAnswer};
 
-use crate::reduced::{ViolationForm, cut_answer};
 use crate::runs::ended;
+use answers::{ViolationForm, cut_answer};
 use common::OutOfMemory;
 use litmus::print;
 use machine::Machine;

@@ -9,7 +9,7 @@ use Rattle.verdicts.specs.Judgement.{IsVerdict}
 use Rattle.reduction.specs.Needed.{IsReduction}
 use Rattle.verdicts.specs.declared.printed.Answer.{Answer}
 use Rattle.answers.specs.Reduced.{IsCutAnswer}
-use Rattle.answers.proofs.shown.shown_run.Goals as goal
+use Rattle.run_answers.proofs.shown.shown_run.Goals as goal
 
 -- what is cut down is a violation
 cut_violates : (x : Execution) (p : Option Parts) (headed : Option (List (List ℕ))) (answer : Answer) → IsCutAnswer x p headed answer

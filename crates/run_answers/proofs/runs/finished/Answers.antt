@@ -1,5 +1,5 @@
 use Rattle.std.proofs.lemmas.Result.{IfOk-weaker}
-use Rattle.answers.proofs.runs.finished.Goals as goal
+use Rattle.run_answers.proofs.runs.finished.Goals as goal
 
 pub ended-requires : goal.ended-requires
 ended-requires c = (c.args.machine, c.in_ok-judged.ensures)

@@ -2,7 +2,7 @@
 
 ghost use Rattle.std.specs.Prelude.{◌≡◌, ◌<◌, IfErr, IfOk};
 ghost use Rattle.live.specs.Driven.{IsDriveError};
-ghost use Rattle.answers.specs.Histogram.{IsLiveHistogramAnswer, IsSeededHistogramAnswer, histogram_outcome};
+ghost use Rattle.run_answers.specs.Histogram.{IsLiveHistogramAnswer, IsSeededHistogramAnswer, histogram_outcome};
 
 use common::OutOfMemory;
 use histograms::{

@@ -1,5 +1,5 @@
 use Rattle.std.proofs.lemmas.Result.{IfOk-weaker}
-use Rattle.answers.proofs.campaigns.campaign_answer.Goals as goal
+use Rattle.run_answers.proofs.campaigns.campaign_answer.Goals as goal
 
 pub returns : goal.returns
 returns g c = IfOk-weaker c.trials_answer.result _ _ (λ answer is. record {

@@ -1,7 +1,7 @@
 use Rattle.std.proofs.Common.{ap}
 use Rattle.std.proofs.lemmas.Result.{IfOk-weaker}
 use Rattle.machine.specs.Configuration.{Configuration}
-use Rattle.answers.proofs.runs.seeded_answer.Goals as goal
+use Rattle.run_answers.proofs.runs.seeded_answer.Goals as goal
 
 -- a random run keeps the program and the fault
 pub returns : goal.returns

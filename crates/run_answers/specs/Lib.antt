@@ -1,0 +1,3 @@
+pub mod Run
+pub mod Campaign
+pub mod Histogram
