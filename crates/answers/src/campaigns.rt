@@ -11,7 +11,7 @@ use std::alloc::Global;
 use verdicts::{Answer, Outcome};
 
 /// Where the counts of a survey stand.
-#[derive(Clone, Copy, Debug, PartialEq, Eq)]
+#[derive(Clone, Copy, PartialEq, Eq)]
 pub enum CountsPlace {
     /// They are all that is printed.
     Alone,

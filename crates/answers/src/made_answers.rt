@@ -49,7 +49,7 @@ fn is_forbidden(alloc: Global, text: &[u8]) -> Result<bool, OutOfMemory>
 }
 
 /// Which critical cycles are listed.
-#[derive(Clone, Copy, Debug, PartialEq, Eq)]
+#[derive(Clone, Copy, PartialEq, Eq)]
 pub enum CycleChoice {
     /// Each.
     Each,

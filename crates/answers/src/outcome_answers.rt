@@ -15,7 +15,7 @@ use std::alloc::Global;
 use verdicts::{Answer, Outcome};
 
 /// What is asked of items.
-#[derive(Clone, Copy, Debug, PartialEq, Eq)]
+#[derive(Clone, Copy, PartialEq, Eq)]
 pub enum Condition {
     /// Some outcome has them.
     Exists,
@@ -63,7 +63,7 @@ fn log_outcome(forbidden: usize) -> Outcome
 }
 
 /// What is printed of a log beside its lines and how many are allowed and forbidden.
-#[derive(Clone, Copy, Debug, PartialEq, Eq)]
+#[derive(Clone, Copy, PartialEq, Eq)]
 pub struct LogDetails {
     /// What is printed of the outcomes that no line shows.
     pub unseen: UnseenForm,
@@ -130,7 +130,7 @@ pub fn log_answer(
 }
 
 /// Whether a condition holds, as it is printed.
-#[derive(Clone, Copy, Debug, PartialEq, Eq)]
+#[derive(Clone, Copy, PartialEq, Eq)]
 pub enum Reply {
     /// It holds.
     Yes,

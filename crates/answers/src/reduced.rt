@@ -178,7 +178,7 @@ pub fn reduced_answer(
 }
 
 /// How a violation is answered.
-#[derive(Clone, Copy, Debug, PartialEq, Eq)]
+#[derive(Clone, Copy, PartialEq, Eq)]
 pub enum ViolationForm {
     /// All of it.
     Whole,

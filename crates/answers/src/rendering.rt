@@ -26,7 +26,7 @@ use std::alloc::Global;
 use verdicts::{Answer, outcome_of};
 
 /// How a recording is rendered.
-#[derive(Clone, Copy, Debug, PartialEq, Eq)]
+#[derive(Clone, Copy, PartialEq, Eq)]
 pub enum Rendering {
     /// Its verdict in words, as `explanation_text` has them.
     Words,

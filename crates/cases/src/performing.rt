@@ -1,8 +1,9 @@
-//! Command lines of cases, performed.
+//! Command lines, performed.
 
 use commands::perform::perform;
 use commands::{Audience, error_text};
 use devices::{Device, Disk};
+use inputs::CommandError;
 use std::alloc::{AllocError, Global};
 use std::io;
 use std::io::{ErrorKind, Write};
@@ -24,6 +25,16 @@ pub struct Printed {
 struct Buffered {
     kept: Vec<u8>,
     flushed: Vec<u8>,
+}
+
+impl Buffered {
+    /// A writer that took nothing.
+    fn new(alloc: Global) -> Buffered {
+        Buffered {
+            kept: Vec::new(alloc),
+            flushed: Vec::new(alloc),
+        }
+    }
 }
 
 impl Write for Buffered {
@@ -73,25 +84,35 @@ fn words_of(alloc: Global, line: &str) -> Result<Vec<String>, AllocError> {
     Ok(words)
 }
 
-/// Performs a command line with this standard input.
-pub fn perform_words<R: Threads + Wait + Sync>(
+/// What was performed: the outcome, or what is said of the error.
+fn said(
+    alloc: Global,
+    words: &[String],
+    host: &Disk<'_>,
+    performed: Result<Outcome, CommandError>,
+) -> Result<Result<Outcome, String>, AllocError> {
+    match performed {
+        Ok(outcome) => Ok(Ok(outcome)),
+        Err(error) => Ok(Err(error_text(alloc, words, &error, host, Audience::of_words(words))?)),
+    }
+}
+
+/// Performs command lines, each with this standard input.
+pub fn perform_lines<R: Threads + Wait + Sync>(
     rt: &HostRuntime,
     threads: &R,
-    line: &str,
+    lines: &[String],
     text: &[u8],
-) -> io::Result<Printed> {
-    let words = words_of(rt.alloc(), line)?;
-    let mut host = Disk::new(rt, Some(text));
-    let mut out = Device::new(Buffered {
-        kept: Vec::new(rt.alloc()),
-        flushed: Vec::new(rt.alloc()),
-    });
-    let performed = match perform(threads, rt.alloc(), &words, &mut host, &mut out) {
-        Ok(outcome) => Ok(outcome),
-        Err(error) => {
-            let audience = Audience::of_words(&words);
-            Err(error_text(rt.alloc(), &words, &error, &host, audience)?)
-        }
-    };
-    Ok(printed_of(rt.alloc(), &out.into_inner().flushed, performed)?)
+) -> io::Result<Vec<Printed>> {
+    let alloc = rt.alloc();
+    let mut printed = Vec::new(alloc);
+    for line in lines {
+        let words = words_of(alloc, line)?;
+        let mut host = Disk::new(rt, Some(text));
+        let mut out = Device::new(Buffered::new(alloc));
+        let performed = perform(threads, alloc, &words, &mut host, &mut out);
+        let said = said(alloc, &words, &host, performed)?;
+        printed.push(printed_of(alloc, &out.into_inner().flushed, said)?)?;
+    }
+    Ok(printed)
 }

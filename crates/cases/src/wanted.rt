@@ -1,14 +1,12 @@
-//! What the files of a folder have to meet. Those of classic tests have the names of the field.
+//! What is asked of the files of a folder. Those of classic tests have the names of the field.
 
 ghost use Rattle.std.specs.Prelude.{◌≡◌, ◌↔◌, IsTrue};
 ghost use Rattle.cases.specs.PrintedStatus.{verdict_status};
 
 use crate::case::{Case, cases_of};
-use crate::performing::{Printed, perform_words};
+use crate::performing::Printed;
 use crate::rules::{has_order, is_run_in_order, prints_back};
-use crate::tally::Tally;
-use std::sync::Wait;
-use std::thread::Threads;
+use std::alloc::{AllocError, Global};
 use std::{fs, io};
 
 /// What a file, or the one of its name that ends otherwise, has to meet.
@@ -28,6 +26,28 @@ pub enum Rule {
     Kept,
     /// A program prints back.
     PrintsBack,
+}
+
+/// What command lines have to print.
+#[derive(Drop)]
+pub enum Wanted<'a> {
+    /// What a case wants.
+    Case(Case<'a>),
+    /// A verdict, with its status.
+    Verdict(&'a str),
+    /// A run that is complete, and in order.
+    Run,
+    /// Nothing: whether what is asked holds is known without a command line.
+    Known(bool),
+}
+
+/// What is counted once: command lines, and what each of them has to print.
+#[derive(Drop)]
+pub struct Check<'a> {
+    /// The command lines after the program's name, each without standard input but of a case.
+    pub commands: Vec<String>,
+    /// What they have to print.
+    pub wanted: Wanted<'a>,
 }
 
 /// The status of what TSO allows.
@@ -55,145 +75,138 @@ fn is_verdict(found: &Printed, verdict: &[u8]) -> bool
     found.status == verdict_status(verdict) && found.text.as_slice() == verdict
 }
 
-/// Whether a command with a program's path and an option with its value prints a run that is complete, and in order.
-fn is_run<R: Threads + Wait + Sync>(
-    rt: &HostRuntime,
-    threads: &R,
-    command: &str,
-    path: &str,
-    option: &str,
-    value: usize,
-) -> io::Result<bool> {
-    let line = format!(in rt.alloc(); "{command} {path}.litmus {option} {value}")?;
-    let found = perform_words(rt, threads, line.as_str(), b"")?;
+/// Whether a run was printed that is complete, and in order.
+fn is_run(alloc: Global, found: &Printed) -> Result<bool, AllocError> {
     match str::from_utf8(found.text.as_slice()) {
-        Ok(text) => Ok(found.status == DONE && is_run_in_order(rt.alloc(), text)?),
+        Ok(text) => Ok(found.status == DONE && is_run_in_order(alloc, text)?),
         Err(_) => Ok(false),
     }
 }
 
-/// Whether what differs at this path is shown: what is wrong has to differ.
-pub fn is_shown(path: &str) -> bool {
-    !path.starts_with("wrong")
-}
-
-/// Performs a case, and answers whether it prints what it is to print, with its status. Where it differs,
-/// it is shown.
-fn perform_one<R: Threads + Wait + Sync>(
-    rt: &HostRuntime,
-    threads: &R,
-    file: &str,
-    case: &Case<'_>,
-) -> io::Result<bool> {
-    let Some(command) = case.command else {
-        if is_shown(file) {
-            println!(rt; "differs: {file}\nno command before {}", case.wanted)?;
+impl Check<'_> {
+    /// Standard input of the command lines.
+    pub fn input(&self) -> &[u8] {
+        match &self.wanted {
+            Wanted::Case(case) => case.input.as_bytes(),
+            _ => b"",
         }
-        return Ok(false);
-    };
-    let found = perform_words(rt, threads, command, case.input.as_bytes())?;
-    let is_met = case.is_met(found.status, found.text.as_slice());
-    if !is_met && is_shown(file) {
-        let text = String::from_utf8_lossy(rt.alloc(), found.text.as_slice())?;
-        println!(rt;
-            "differs: {file}\n$ tsotest{command}\n? {}\n{text}",
-            found.status
-        )?;
     }
-    Ok(is_met)
+
+    /// Whether a command line printed what it has to.
+    pub fn is_met(&self, alloc: Global, found: &Printed) -> Result<bool, AllocError> {
+        match &self.wanted {
+            Wanted::Case(case) => Ok(case.is_met(found.status, found.text.as_slice())),
+            Wanted::Verdict(verdict) => Ok(is_verdict(found, verdict.as_bytes())),
+            Wanted::Run => is_run(alloc, found),
+            Wanted::Known(holds) => Ok(*holds),
+        }
+    }
+
+    /// Whether what is asked holds where each command line printed what it has to.
+    pub fn holds(&self) -> bool {
+        match &self.wanted {
+            Wanted::Known(holds) => *holds,
+            _ => !self.commands.is_empty(),
+        }
+    }
 }
 
-/// Counts each case of a file with this name.
-fn count_cases<R: Threads + Wait + Sync>(
-    rt: &HostRuntime,
-    threads: &R,
-    name: &str,
-    text: &str,
-    tally: &mut Tally,
-) -> io::Result<()> {
-    for case in &cases_of(rt.alloc(), text)? {
+/// What is known to hold, or not to, without a command line.
+fn known<'a>(alloc: Global, holds: bool) -> Check<'a> {
+    Check {
+        commands: Vec::new(alloc),
+        wanted: Wanted::Known(holds),
+    }
+}
+
+/// What one command line has to print.
+fn printed<'a>(
+    alloc: Global,
+    command: String,
+    wanted: Wanted<'a>,
+) -> Result<Check<'a>, AllocError> {
+    let mut commands = Vec::new(alloc);
+    commands.push(command)?;
+    Ok(Check { commands, wanted })
+}
+
+/// What a case asks: a case without a command is never met.
+fn check_of_case<'a>(alloc: Global, case: Case<'a>) -> Result<Check<'a>, AllocError> {
+    let mut commands = Vec::new(alloc);
+    if let Some(command) = case.command {
+        commands.push(String::from_str(alloc, command)?)?;
+    }
+    Ok(Check {
+        commands,
+        wanted: Wanted::Case(case),
+    })
+}
+
+/// The cases of a text, but what is remarks alone.
+fn checks_of_cases<'a>(alloc: Global, text: &'a str) -> Result<Vec<Check<'a>>, AllocError> {
+    let mut checks = Vec::new(alloc);
+    for case in cases_of(alloc, text)? {
         if !case.is_remark() {
-            tally.count(perform_one(rt, threads, name, case)?);
+            checks.push(check_of_case(alloc, case)?)?;
         }
     }
-    Ok(())
+    Ok(checks)
 }
 
-/// Whether this verdict is printed of the recording at this path.
-fn is_judged<R: Threads + Wait + Sync>(
-    rt: &HostRuntime,
-    threads: &R,
-    path: &str,
-    verdict: &str,
-) -> io::Result<bool> {
-    let line = format!(in rt.alloc(); "judge {path}.json")?;
-    let found = perform_words(rt, threads, line.as_str(), b"")?;
-    Ok(is_verdict(&found, verdict.as_bytes()))
+/// That a program prints back, and that its runs by threads are complete, and in order.
+fn kept<'a>(alloc: Global, path: &str, text: &str) -> Result<Check<'a>, AllocError> {
+    if !prints_back(alloc, text) {
+        return Ok(known(alloc, false));
+    }
+    let mut commands = Vec::new(alloc);
+    commands.push(format!(in alloc; " live {path}.litmus --buffer 1")?)?;
+    commands.push(format!(in alloc; " live {path}.litmus --buffer 8")?)?;
+    Ok(Check {
+        commands,
+        wanted: Wanted::Run,
+    })
 }
 
-/// Whether the order of this verdict, if it is one, is one of the recording at this path.
-fn is_ordered(rt: &HostRuntime, path: &str, verdict: &str) -> io::Result<bool> {
+/// That the order of a verdict, if it is one, is one of the recording at this path.
+fn ordered<'a>(rt: &HostRuntime, path: &str, verdict: &str) -> io::Result<Check<'a>> {
     let name = format!(in rt.alloc(); "{path}.json")?;
     let recording = fs::read(rt, name.as_str())?;
-    Ok(has_order(rt.alloc(), recording.as_slice(), verdict)?)
+    let holds = has_order(rt.alloc(), recording.as_slice(), verdict)?;
+    Ok(known(rt.alloc(), holds))
 }
 
-/// Whether the runs by threads of the program at this path are complete, and in order.
-fn is_kept<R: Threads + Wait + Sync>(
-    rt: &HostRuntime,
-    threads: &R,
-    path: &str,
-) -> io::Result<bool> {
-    Ok(
-        is_run(rt, threads, "live", path, "--buffer", 1)?
-            && is_run(rt, threads, "live", path, "--buffer", 8)?,
-    )
-}
-
-/// Counts whether the file at this path with this ending meets a rule, and names it where it does not. Of a file of
-/// cases it counts each case.
-fn count_one<R: Threads + Wait + Sync>(
-    rt: &HostRuntime,
-    threads: &R,
-    path: &str,
-    ending: &str,
-    rule: Rule,
-    tally: &mut Tally,
-) -> io::Result<()> {
-    let name = format!(in rt.alloc(); "{path}{ending}")?;
-    let text = fs::read_to_string(rt, name.as_str())?;
-    let text = text.as_str();
-    let is_as_wanted = match rule {
-        Rule::Performed => return count_cases(rt, threads, name.as_str(), text, tally),
-        Rule::Judged => is_judged(rt, threads, path, text)?,
-        Rule::Order => is_ordered(rt, path, text)?,
-        Rule::Seed(seed) => is_run(rt, threads, "run", path, "--seed", seed)?,
-        Rule::Run => is_run_in_order(rt.alloc(), text)?,
-        Rule::Kept => prints_back(rt.alloc(), text) && is_kept(rt, threads, path)?,
-        Rule::PrintsBack => prints_back(rt.alloc(), text),
-    };
-    tally.count(is_as_wanted);
-    if !is_as_wanted && is_shown(path) {
-        println!(rt; "differs: {name}")?;
+/// What a rule asks of the file at this path, with this text, which has no cases.
+fn check_of<'a>(rt: &HostRuntime, path: &str, rule: Rule, text: &'a str) -> io::Result<Check<'a>> {
+    let alloc = rt.alloc();
+    match rule {
+        Rule::Judged => {
+            let command = format!(in alloc; " judge {path}.json")?;
+            Ok(printed(alloc, command, Wanted::Verdict(text))?)
+        }
+        Rule::Seed(seed) => {
+            let command = format!(in alloc; " run {path}.litmus --seed {seed}")?;
+            Ok(printed(alloc, command, Wanted::Run)?)
+        }
+        Rule::Kept => Ok(kept(alloc, path, text)?),
+        Rule::Order => ordered(rt, path, text),
+        Rule::Run => Ok(known(alloc, is_run_in_order(alloc, text)?)),
+        _ => Ok(known(alloc, prints_back(alloc, text))),
     }
-    Ok(())
 }
 
-/// Counts whether each file of a folder whose name ends so meets a rule.
-pub fn count_all<R: Threads + Wait + Sync>(
+/// What a rule asks of the file at this path, with this text.
+pub fn checks_of<'a>(
     rt: &HostRuntime,
-    threads: &R,
-    folder: &str,
-    ending: &str,
+    path: &str,
     rule: Rule,
-) -> io::Result<Tally> {
-    let mut tally = Tally::new();
-    for entry in fs::read_dir(rt, folder)? {
-        let entry = entry?;
-        if let Some(name) = entry.file_name().strip_suffix(ending) {
-            let path = format!(in rt.alloc(); "{folder}/{name}")?;
-            count_one(rt, threads, path.as_str(), ending, rule, &mut tally)?;
+    text: &'a str,
+) -> io::Result<Vec<Check<'a>>> {
+    match rule {
+        Rule::Performed => Ok(checks_of_cases(rt.alloc(), text)?),
+        _ => {
+            let mut checks = Vec::new(rt.alloc());
+            checks.push(check_of(rt, path, rule, text)?)?;
+            Ok(checks)
         }
     }
-    Ok(tally)
 }

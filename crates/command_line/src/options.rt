@@ -97,7 +97,7 @@ pub const DEFAULT_SEED: u64 = 0;
 pub const DEFAULT_FAULT: Fault = Fault::None;
 
 /// What the command line asks for.
-#[derive(Debug, Drop)]
+#[derive(Drop)]
 pub enum Options {
     /// `run`.
     Run(RunOptions),
@@ -133,7 +133,7 @@ pub enum Options {
 
 /// What `run` is asked: the names of the program and of the script, the machine and the steps of a random run, and how
 /// many runs are counted.
-#[derive(Debug, Drop)]
+#[derive(Drop)]
 pub struct RunOptions {
     /// The name of the program.
     pub program: String,
@@ -154,7 +154,7 @@ pub struct RunOptions {
 }
 
 /// What `judge` is asked without `--long`: the name of the recording, and how many workers judge it at most.
-#[derive(Debug, Drop)]
+#[derive(Drop)]
 pub struct JudgeOptions {
     /// The name of the recording.
     pub file: String,
@@ -163,7 +163,7 @@ pub struct JudgeOptions {
 }
 
 /// What `trials` is asked: the campaign, the workers, the trial that is shown, and how it and progress are.
-#[derive(Debug, Drop)]
+#[derive(Drop)]
 pub struct TrialsOptions {
     /// The campaign; of a shard the trials of the shard alone, of which the first has the number 0.
     pub campaign: Campaign,
@@ -180,7 +180,7 @@ pub struct TrialsOptions {
 }
 
 /// What `replay` and `judge --long` are asked: the name of the recording.
-#[derive(Debug, Drop)]
+#[derive(Drop)]
 pub struct FileOptions {
     /// The name of the recording.
     pub file: String,
@@ -188,7 +188,7 @@ pub struct FileOptions {
 
 /// What `explain` and `reduce` are asked: the name of the recording and the most that it may have, and the names of the
 /// program that names its addresses and of the labels of its events.
-#[derive(Debug, Drop)]
+#[derive(Drop)]
 pub struct ExplainOptions {
     /// The name of the recording.
     pub file: String,
@@ -201,7 +201,7 @@ pub struct ExplainOptions {
 }
 
 /// What `draw` is asked: the recording, and which of its events are drawn.
-#[derive(Debug, Drop)]
+#[derive(Drop)]
 pub struct DrawOptions {
     /// The recording, and the program that names its addresses.
     pub recording: ExplainOptions,
@@ -211,7 +211,7 @@ pub struct DrawOptions {
 
 /// What `verify` is asked: the names of the recording and of the text of a verdict, how large the recording may be, and
 /// how many workers check the labels.
-#[derive(Debug, Drop)]
+#[derive(Drop)]
 pub struct VerifyOptions {
     /// The name of the recording.
     pub recording: String,
@@ -224,7 +224,7 @@ pub struct VerifyOptions {
 }
 
 /// What `survey` is asked: the name of the recordings, what is reported of them, and the workers.
-#[derive(Debug, Drop)]
+#[derive(Drop)]
 pub struct SurveyOptions {
     /// The name of the recordings.
     pub file: String,
@@ -251,7 +251,7 @@ pub struct SurveyOptions {
 }
 
 /// What `merge` is asked: the names of the texts, and whether some trials or lines may be missing.
-#[derive(Debug, Drop)]
+#[derive(Drop)]
 pub struct MergeOptions {
     /// The names of the texts, one at least.
     pub files: Vec<String>,
@@ -261,7 +261,7 @@ pub struct MergeOptions {
 
 /// What `live` is asked: the name of the program, the capacity of each buffer, how many steps may be taken, and how
 /// many runs are counted.
-#[derive(Debug, Drop)]
+#[derive(Drop)]
 pub struct LiveOptions {
     /// The name of the program.
     pub program: String,
@@ -274,7 +274,7 @@ pub struct LiveOptions {
 }
 
 /// What `outcomes` is asked: the name of the program, what is asked of its outcomes, and how many states are looked at.
-#[derive(Debug, Drop)]
+#[derive(Drop)]
 pub struct OutcomesOptions {
     /// The name of the program.
     pub program: String,
@@ -285,7 +285,7 @@ pub struct OutcomesOptions {
 }
 
 /// What `complete` is asked: the name of the values of a run, and how many states are looked at.
-#[derive(Debug, Drop)]
+#[derive(Drop)]
 pub struct CompleteOptions {
     /// The name of the values.
     pub file: String,
@@ -294,7 +294,7 @@ pub struct CompleteOptions {
 }
 
 /// What `make` is asked.
-#[derive(Debug, Drop)]
+#[derive(Drop)]
 pub enum MakeOptions {
     /// The program and the recording of these words of a cycle.
     Cycle(String),
@@ -308,7 +308,7 @@ pub enum MakeOptions {
 }
 
 /// What is asked of the outcomes of a program.
-#[derive(Debug, Drop)]
+#[derive(Drop)]
 pub enum Question {
     /// All of them.
     All,
@@ -331,7 +331,7 @@ pub enum Question {
 
 /// Why the entries of words that `clap` takes are refused. Where several apply, the first in this order
 /// is answered.
-#[derive(Clone, Copy, Debug, Drop, PartialEq, Eq)]
+#[derive(Clone, Copy, Drop, PartialEq, Eq)]
 pub enum OptionRefusal {
     /// K1 to K7: the sizes of programs, the number of trials, of attempts (of `live` the limit), or the
     /// buffer's capacity.
@@ -485,7 +485,7 @@ impl Display for Misfit {
 }
 
 /// Why the words gave no options.
-#[derive(Debug, Drop)]
+#[derive(Drop)]
 pub enum OptionStop {
     /// What `clap` says: an error of the command line, or the help that was asked for.
     Clap(clap::Error),

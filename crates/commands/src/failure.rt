@@ -9,7 +9,7 @@ use std::io::ErrorKind;
 const FIXED: [&str; 4] = ["run", "judge", "live", "replay"];
 
 /// Whom a text on standard error is for.
-#[derive(Clone, Copy, Debug, PartialEq, Eq)]
+#[derive(Clone, Copy, PartialEq, Eq)]
 pub enum Audience {
     /// A script, which knows the fixed lines.
     Script,

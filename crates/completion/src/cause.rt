@@ -2,7 +2,7 @@
 
 /// Why one event comes before another in whatever completes the values (Nagarajan, Sorin, Hill and Wood, A Primer on
 /// Memory Consistency and Cache Coherence, second edition, chapter 4).
-#[derive(Clone, Copy, Debug, PartialEq, Eq)]
+#[derive(Clone, Copy, PartialEq, Eq)]
 pub enum Cause {
     /// Program order: they are a pair of one core that memory order keeps.
     Po,
@@ -18,7 +18,7 @@ pub enum Cause {
 }
 
 /// One event before another, with the cause.
-#[derive(Clone, Copy, Debug, PartialEq, Eq)]
+#[derive(Clone, Copy, PartialEq, Eq)]
 pub struct Link {
     /// The earlier event.
     pub first: usize,

@@ -1,7 +1,7 @@
 //! Why words are no cycle.
 
 /// Why no program is made of words. Where several apply, the first in this order is answered.
-#[derive(Clone, Copy, Debug, Drop, PartialEq, Eq)]
+#[derive(Clone, Copy, Drop, PartialEq, Eq)]
 pub enum CycleRefusal {
     /// E1: the word with this number, from 1, is none, or there is no word.
     Word(usize),

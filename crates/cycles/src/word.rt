@@ -6,7 +6,7 @@ ghost use Rattle.cycles.specs.Words.{is_turn};
 ghost use Rattle.cycles.specs.Words.{kind_by, meeting, start, starts_with_store};
 
 /// What a word in program order says of the access at one of its ends.
-#[derive(Clone, Copy, Debug, PartialEq, Eq)]
+#[derive(Clone, Copy, PartialEq, Eq)]
 pub struct Letter {
     /// Whether it is a store, `W`, or else a load, `R`; an atomic access is both, and may be called either.
     pub is_store: bool,
@@ -15,7 +15,7 @@ pub struct Letter {
 }
 
 /// How an access of an address comes before another of it.
-#[derive(Clone, Copy, Debug, PartialEq, Eq)]
+#[derive(Clone, Copy, PartialEq, Eq)]
 pub enum Link {
     /// The second reads what the first wrote.
     Rf,
@@ -26,7 +26,7 @@ pub enum Link {
 }
 
 /// `Po` and `MFence`: two accesses of a core, the first before the second in program order.
-#[derive(Clone, Copy, Debug, PartialEq, Eq)]
+#[derive(Clone, Copy, PartialEq, Eq)]
 pub struct Pair {
     /// Whether a fence stands between them.
     pub fenced: bool,
@@ -39,7 +39,7 @@ pub struct Pair {
 }
 
 /// `Rf`, `Fr` and `Co`: two accesses of an address, the first before the second.
-#[derive(Clone, Copy, Debug, PartialEq, Eq)]
+#[derive(Clone, Copy, PartialEq, Eq)]
 pub struct Side {
     /// How.
     pub link: Link,
@@ -48,7 +48,7 @@ pub struct Side {
 }
 
 /// A word: how an access of a cycle comes before the next.
-#[derive(Clone, Copy, Debug, PartialEq, Eq)]
+#[derive(Clone, Copy, PartialEq, Eq)]
 pub enum Word {
     /// In program order.
     Pair(Pair),
@@ -66,7 +66,7 @@ pub(crate) struct End {
 }
 
 /// What an access does.
-#[derive(Clone, Copy, Debug, PartialEq, Eq)]
+#[derive(Clone, Copy, PartialEq, Eq)]
 pub(crate) enum Kind {
     /// It loads.
     Load,

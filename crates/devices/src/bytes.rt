@@ -1,7 +1,7 @@
 //! What gives and what takes bytes.
 
 /// A read or a write failed.
-#[derive(Clone, Copy, Debug, PartialEq, Eq)]
+#[derive(Clone, Copy, PartialEq, Eq)]
 pub struct Failed;
 
 /// What gives bytes, from the first to the last.

@@ -4,7 +4,7 @@ use crate::bytes::Source;
 use common::Gate;
 
 /// Why an input was not given.
-#[derive(Clone, Copy, Debug, PartialEq, Eq)]
+#[derive(Clone, Copy, PartialEq, Eq)]
 pub enum InputError {
     /// There is no input of this name, or it can't be opened.
     CannotOpen,
@@ -13,7 +13,7 @@ pub enum InputError {
 }
 
 /// What became of the inputs that a host gave.
-#[derive(Clone, Copy, Debug, Drop, PartialEq, Eq)]
+#[derive(Clone, Copy, Drop, PartialEq, Eq)]
 pub struct Tally {
     /// One was given and not yet taken back.
     pub is_lent: bool,

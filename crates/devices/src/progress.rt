@@ -19,7 +19,7 @@ pub const BETWEEN_LINES: u64 = 250;
 const BLANKS: &str = "\r                                                                \r";
 
 /// How far a campaign is, or a survey.
-#[derive(Clone, Copy, Debug, PartialEq, Eq)]
+#[derive(Clone, Copy, PartialEq, Eq)]
 pub struct Line {
     /// How many trials or recordings are done.
     pub done: usize,

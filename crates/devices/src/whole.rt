@@ -8,7 +8,7 @@ use crate::bytes::{Failed, Sink, Source};
 use std::alloc::{AllocError, Global};
 
 /// Why not all bytes of a source were read.
-#[derive(Clone, Copy, Debug, PartialEq, Eq)]
+#[derive(Clone, Copy, PartialEq, Eq)]
 pub enum ReadError {
     /// A read failed.
     ReadFailed,

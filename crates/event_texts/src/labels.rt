@@ -83,7 +83,7 @@ fn copied_lines(alloc: Global, text: &[u8]) -> Result<Vec<Vec<u8>>, OutOfMemory>
 }
 
 /// Why a text has no labels.
-#[derive(Clone, Copy, Debug, Drop, PartialEq, Eq)]
+#[derive(Clone, Copy, Drop, PartialEq, Eq)]
 pub enum LabelError {
     /// This line is the first that has more than `MAX_LABEL_LEN` bytes; lines are counted from 1.
     TooLong(usize),

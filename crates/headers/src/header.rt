@@ -10,7 +10,7 @@ use program::{Campaign, Fault};
 use texts::{put_number, put_text};
 
 /// What the trials of a campaign have in common beside their number and their seeds.
-#[derive(Clone, Copy, Debug, Drop, PartialEq, Eq)]
+#[derive(Clone, Copy, Drop, PartialEq, Eq)]
 pub struct Setup {
     /// How many cores each program has.
     pub cores: usize,
@@ -27,7 +27,7 @@ pub struct Setup {
 }
 
 /// What is counted.
-#[derive(Clone, Copy, Debug, Drop, PartialEq, Eq)]
+#[derive(Clone, Copy, Drop, PartialEq, Eq)]
 pub enum Counted {
     /// Trials of campaigns with this in common.
     Campaign(Setup),
@@ -38,7 +38,7 @@ pub enum Counted {
 }
 
 /// What is counted, and which of them.
-#[derive(Clone, Copy, Debug, Drop, PartialEq, Eq)]
+#[derive(Clone, Copy, Drop, PartialEq, Eq)]
 pub struct Header {
     /// What is counted.
     pub counted: Counted,

@@ -26,7 +26,7 @@ const BLOCK: usize = 4096;
 type Slot = Result<Option<Seen>, OutOfMemory>;
 
 /// Random runs of a program.
-#[derive(Clone, Copy, Debug, Drop)]
+#[derive(Clone, Copy, Drop)]
 pub struct SeededRuns {
     /// The seed of the first; each later one has the next, modulo 2^64.
     pub seed: u64,

@@ -14,7 +14,7 @@ use std::alloc::Global;
 use texts::{put_text, put_text_and_number};
 
 /// How a line names the first run that came to its outcome.
-#[derive(Clone, Copy, Debug, Drop)]
+#[derive(Clone, Copy, Drop)]
 pub enum Mark {
     /// By its seed; the first run of all has this one.
     Seed(u64),

@@ -8,7 +8,7 @@ use refusals::refused;
 use std::alloc::{AllocError, Global};
 
 /// What is printed of a text, a number or a name that is refused.
-#[derive(Debug, Drop)]
+#[derive(Drop)]
 pub struct PrintedRefusal {
     /// The line that is printed.
     pub line: String,
@@ -17,7 +17,7 @@ pub struct PrintedRefusal {
 }
 
 /// Why a command stops before its usual answer.
-#[derive(Debug, Drop)]
+#[derive(Drop)]
 pub enum CommandStop {
     /// A text, a number or a name is refused.
     Refused(PrintedRefusal),

@@ -354,29 +354,41 @@ impl Gate for Lasting<'_> {
     }
 }
 
+/// The forced pairs of the most events, which have cycles.
+fn most_pairs(alloc: Global) -> Option<Relation> {
+    let recording = reversed(alloc, MAX_EVENTS as EventId)?;
+    if recording.len() > MAX_EVENTS {
+        return None;
+    }
+    Relation::of(alloc, &recording).ok()
+}
+
+/// Searches by one worker, and says whether it came to its end.
+fn is_searched<R: Threads + Wait + Sync, G: Gate>(
+    threads: &R,
+    alloc: Global,
+    relation: Relation,
+    gate: &G,
+) -> Option<bool> {
+    let (jobs, best, mut seat) = begun(alloc, relation)?;
+    Some(run_jobs(threads, alloc, jobs, &best, &mut seat, 1, gate).is_ok())
+}
+
 /// Whether most of the time of a search by one worker passes between the beginning of a row and its end.
 fn lasts_inside<R: Threads + Wait + Sync>(
     rt: &HostRuntime,
     threads: &R,
     alloc: Global,
 ) -> Option<bool> {
-    let recording = reversed(alloc, MAX_EVENTS as EventId)?;
-    if recording.len() > MAX_EVENTS {
-        return None;
-    }
-    let relation = Relation::of(alloc, &recording).ok()?;
-    let (jobs, best, mut seat) = begun(alloc, relation)?;
+    let relation = most_pairs(alloc)?;
     let gate = Lasting {
         rt,
         start: Instant::now(rt).ok()?,
         begun: AtomicU64::new(0),
         inside: AtomicU64::new(0),
     };
-    let rows = run_jobs(threads, alloc, jobs, &best, &mut seat, 1, &gate).ok()?;
-    let all = gate.now();
-    drop(rows);
-    let inside = gate.inside.load(Ordering::SeqCst);
-    Some(inside > all / 2)
+    let is_searched = is_searched(threads, alloc, relation, &gate)?;
+    Some(is_searched && gate.inside.load(Ordering::SeqCst) > gate.now() / 2)
 }
 
 /// Whether it does so in one run of many, since a thread may be kept from its processor.

@@ -9,7 +9,7 @@ use recording::RecError;
 use verdicts::Verdict;
 
 /// What is found of a recording, or of values: which verdict there is on it, what they come to, or why it is refused.
-#[derive(Clone, Copy, Debug, Drop, PartialEq, Eq)]
+#[derive(Clone, Copy, Drop, PartialEq, Eq)]
 pub enum Finding {
     /// It has an order, or they have one.
     Ordered,

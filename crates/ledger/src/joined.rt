@@ -17,7 +17,7 @@ use headers::{Counted, Header};
 use std::alloc::Global;
 
 /// What is done where seeds or lines are missing between texts.
-#[derive(Clone, Copy, Debug, Drop, PartialEq, Eq)]
+#[derive(Clone, Copy, Drop, PartialEq, Eq)]
 pub enum Gaps {
     /// The texts are refused.
     Refuse,

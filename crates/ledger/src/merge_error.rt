@@ -4,7 +4,7 @@ use crate::text_kind::Kind;
 use common::OutOfMemory;
 
 /// Why a text is refused.
-#[derive(Clone, Copy, Debug, Drop, PartialEq, Eq)]
+#[derive(Clone, Copy, Drop, PartialEq, Eq)]
 pub enum MergeRefusal {
     /// M1: a line is none of such a text.
     NoLine,
@@ -21,7 +21,7 @@ pub enum MergeRefusal {
 }
 
 /// Why a text is not added: a refusal, with how many bytes are left from the line at fault on, or that memory ran out.
-#[derive(Clone, Copy, Debug, Drop, PartialEq, Eq)]
+#[derive(Clone, Copy, Drop, PartialEq, Eq)]
 pub(crate) enum TextError {
     /// It is refused.
     Refused {
@@ -46,7 +46,7 @@ impl From<OutOfMemory> for TextError {
 }
 
 /// Seeds or lines that are missing between two texts, or that two have.
-#[derive(Clone, Copy, Debug, Drop, PartialEq, Eq)]
+#[derive(Clone, Copy, Drop, PartialEq, Eq)]
 pub struct Seam {
     /// The first of them.
     pub from: u64,
@@ -61,7 +61,7 @@ pub struct Seam {
 }
 
 /// Why texts are not added up.
-#[derive(Clone, Copy, Debug, Drop, PartialEq, Eq)]
+#[derive(Clone, Copy, Drop, PartialEq, Eq)]
 pub enum MergeError {
     /// A text is refused.
     Refused {

@@ -10,7 +10,7 @@ use common::OutOfMemory;
 use std::alloc::Global;
 
 /// How many codes are of a kind, and where the first is.
-#[derive(Clone, Copy, Debug, Drop, PartialEq, Eq)]
+#[derive(Clone, Copy, Drop, PartialEq, Eq)]
 pub struct KindCount {
     /// How many there are.
     pub count: usize,

@@ -3,7 +3,7 @@
 use texts::Cursor;
 
 /// Whose counts a text has.
-#[derive(Clone, Copy, Debug, Drop, PartialEq, Eq)]
+#[derive(Clone, Copy, Drop, PartialEq, Eq)]
 pub enum Kind {
     /// Those of the trials of a campaign.
     Campaign,

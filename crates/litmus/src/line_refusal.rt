@@ -8,7 +8,7 @@ use texts::LineError;
 
 /// Why a line of a litmus text is refused. Where several apply to one line, the first in this order
 /// is answered.
-#[derive(Clone, Copy, Debug, PartialEq, Eq)]
+#[derive(Clone, Copy, PartialEq, Eq)]
 pub enum LineRefusal {
     /// The line is outside the grammar, has no newline, is an operation before the first `core`, or a
     /// core or an operation after an `init` line.

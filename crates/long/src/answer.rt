@@ -13,7 +13,7 @@ use std::alloc::Global;
 use verdicts::Verdict;
 
 /// What is answered to a recording.
-#[derive(Debug, Drop)]
+#[derive(Drop)]
 pub enum LongAnswer {
     /// The first memory order of TSO in dictionary order that explains it.
     Order(Vec<EventId>),

@@ -4,7 +4,7 @@ use texts::LineError;
 
 /// Why a line of a step script is refused. Where several apply to one line, the first in this order
 /// is answered.
-#[derive(Clone, Copy, Debug, PartialEq, Eq)]
+#[derive(Clone, Copy, PartialEq, Eq)]
 pub enum StepRefusal {
     /// The line is outside the grammar, or has no newline.
     S1,

@@ -5,7 +5,7 @@ use common::{Addr, CoreId};
 /// A step of the machine, of cores with store buffers and MOESI caches over one memory (Nagarajan,
 /// Sorin, Hill and Wood, A Primer on Memory Consistency and Cache Coherence, second edition,
 /// chapter 4 for the steps of cores, chapters 6 to 8 for transactions).
-#[derive(Clone, Copy, Debug, PartialEq, Eq)]
+#[derive(Clone, Copy, PartialEq, Eq)]
 pub enum Step {
     /// The core executes its next operation in program order.
     Exec(CoreId),

@@ -2,7 +2,7 @@
 
 use crate::plain::{STORE_BUFFERING, program};
 use common::{Gate, OpenGate};
-use live::drive;
+use live::{Traced, drive};
 use machine::Step;
 use std::alloc::Global;
 use std::sync::Wait;
@@ -56,13 +56,27 @@ impl Gate for Told {
     }
 }
 
+/// A run by threads of the program of a text, whose buffers have room for 8 stores.
+fn driven<R: Threads + Wait + Sync, G: Gate>(
+    rt: &R,
+    alloc: Global,
+    text: &str,
+    gate: &G,
+) -> Result<Traced, Fail> {
+    let program = program(alloc, text)?;
+    Ok(drive(rt, alloc, program, 8, 100_000, gate)?)
+}
+
+/// Whether the first operation of a trace is one of core 1.
+fn begins_with_core_1(trace: &[Step]) -> bool {
+    let first = trace.iter().find(|step| matches!(step, Step::Exec(_)));
+    first == Some(&Step::Exec(1))
+}
+
 /// Whether threads drive store buffering to its end, with a step of core 1 before those of core 0.
 fn is_driven<R: Threads + Wait + Sync>(rt: &R, alloc: Global, gate: &Told) -> Result<bool, Fail> {
-    let program = program(alloc, STORE_BUFFERING)?;
-    let traced = drive(rt, alloc, program, 8, 100_000, gate)?;
-    let mut steps = traced.trace().iter();
-    let first = steps.find(|step| matches!(step, Step::Exec(_)));
-    Ok(traced.machine().is_complete() && first == Some(&Step::Exec(1)))
+    let traced = driven(rt, alloc, STORE_BUFFERING, gate)?;
+    Ok(traced.machine().is_complete() && begins_with_core_1(traced.trace()))
 }
 
 #[test]
@@ -102,19 +116,17 @@ impl Gate for Held {
 /// A core whose last operations wait for its store to be in memory, beside another core.
 const DRAINED_BESIDE: &str = "core\nst x 1\ncore\nst y 1\nfence\nswap y 2\nld x\n";
 
+/// How many operations of core 1 come before the first of core 0.
+fn count_before_core_0(trace: &[Step]) -> usize {
+    let first = trace.iter().position(|step| *step == Step::Exec(0));
+    let before = trace.iter().take(first.unwrap_or(0));
+    before.filter(|step| **step == Step::Exec(1)).count()
+}
+
 /// Whether the other core comes to its end, by drains and transactions, while core 0 is held.
 fn ends_beside<R: Threads + Wait + Sync>(rt: &R, alloc: Global, gate: &Held) -> Result<bool, Fail> {
-    let program = program(alloc, DRAINED_BESIDE)?;
-    let traced = drive(rt, alloc, program, 8, 100_000, gate)?;
-    let mut steps = traced.trace().iter();
-    let first = steps.position(|step| *step == Step::Exec(0));
-    let before = traced
-        .trace()
-        .iter()
-        .take(first.unwrap_or(0))
-        .filter(|step| **step == Step::Exec(1))
-        .count();
-    Ok(traced.machine().is_complete() && before == 4)
+    let traced = driven(rt, alloc, DRAINED_BESIDE, gate)?;
+    Ok(traced.machine().is_complete() && count_before_core_0(traced.trace()) == 4)
 }
 
 #[test]
@@ -150,12 +162,16 @@ fn leaves_stores(steps: &[Step]) -> bool {
     false
 }
 
-/// Whether a run of many has such a drain.
+/// Whether a run has such a drain.
+fn has_single_drain<R: Threads + Wait + Sync>(rt: &R, alloc: Global) -> Result<bool, Fail> {
+    let traced = driven(rt, alloc, STORES_BESIDE_LOADS, &OpenGate)?;
+    Ok(leaves_stores(traced.trace()))
+}
+
+/// Whether a run of many has.
 fn has_single_drains<R: Threads + Wait + Sync>(rt: &R, alloc: Global) -> Result<bool, Fail> {
     for _ in 0..200 {
-        let program = program(alloc, STORES_BESIDE_LOADS)?;
-        let traced = drive(rt, alloc, program, 8, 100_000, &OpenGate)?;
-        if leaves_stores(traced.trace()) {
+        if has_single_drain(rt, alloc)? {
             return Ok(true);
         }
     }

@@ -1,7 +1,7 @@
 //! Why a call on the caches is refused.
 
 /// What a refused call found. It changed nothing.
-#[derive(Clone, Copy, Debug, PartialEq, Eq)]
+#[derive(Clone, Copy, PartialEq, Eq)]
 pub enum CacheError {
     /// `get_s` found the core's line valid.
     C1,

@@ -7,7 +7,7 @@ ghost use Rattle.moesi.specs.Lines.{is_valid, is_exclusive, is_owned, supplies};
 /// (memory may lack its data), exclusive (no other core has a copy) and dirty (its data may differ
 /// from memory's). Nagarajan, Sorin, Hill and Wood, A Primer on Memory Consistency and Cache
 /// Coherence, second edition, chapters 6 to 8.
-#[derive(Clone, Copy, Debug, PartialEq, Eq)]
+#[derive(Clone, Copy, PartialEq, Eq)]
 pub enum Line {
     /// Invalid: not valid.
     I,

@@ -12,7 +12,7 @@ use program::{Name, Op, Program};
 use texts::{Number, decimal};
 
 /// Whether items end with `;`.
-#[derive(Clone, Copy, Debug, PartialEq, Eq)]
+#[derive(Clone, Copy, PartialEq, Eq)]
 pub enum Ending {
     /// They do, as in a log.
     Needed,

@@ -121,7 +121,7 @@ fn put_total(out: &mut Vec<u8>, name: &[u8], number: usize) -> Result<(), OutOfM
 }
 
 /// What is printed of the outcomes that no line shows.
-#[derive(Clone, Copy, Debug, PartialEq, Eq)]
+#[derive(Clone, Copy, PartialEq, Eq)]
 pub enum UnseenForm {
     /// How many they are.
     Count,

@@ -1,7 +1,7 @@
 //! Moves.
 
 /// What a core does next.
-#[derive(Clone, Copy, Debug, PartialEq, Eq)]
+#[derive(Clone, Copy, PartialEq, Eq)]
 pub enum Move {
     /// It executes its next operation.
     Exec,
@@ -10,7 +10,7 @@ pub enum Move {
 }
 
 /// A move of a core.
-#[derive(Clone, Copy, Debug, PartialEq, Eq)]
+#[derive(Clone, Copy, PartialEq, Eq)]
 pub(crate) struct Turn {
     /// The move.
     pub step: Move,

@@ -8,7 +8,7 @@ use common::{Addr, EventId};
 use situations::value_at;
 
 /// One value that was seen.
-#[derive(Clone, Copy, Debug, PartialEq, Eq)]
+#[derive(Clone, Copy, PartialEq, Eq)]
 pub enum Observation {
     /// The event read the value.
     Read(EventId, u32),

@@ -9,7 +9,7 @@ use std::marker::Model;
 /// What the trials of a campaign have in common: the shape of their programs, the seed of the first,
 /// how many trials there are, how many steps each attempts at most, the capacity of store buffers and
 /// the fault of the machine.
-#[derive(Clone, Copy, Debug, PartialEq, Eq)]
+#[derive(Clone, Copy, PartialEq, Eq)]
 pub struct Campaign {
     shape: Shape,
     base: u64,

@@ -7,7 +7,7 @@ ghost use Rattle.std.specs.List.{list_all, position_or_len};
 use indexmap::IndexSet;
 
 /// The name of an address: one letter `a` to `z`, then at most 7 of `a` to `z` and `0` to `9`.
-#[derive(Clone, Copy, Debug, PartialEq, Eq, Hash)]
+#[derive(Clone, Copy, PartialEq, Eq, Hash)]
 pub struct Name {
     bytes: [u8; 8],
 }

@@ -8,7 +8,7 @@ use std::marker::Model;
 
 /// One operation of a core. (Nagarajan, Sorin, Hill and Wood, A Primer on Memory Consistency and
 /// Cache Coherence, second edition, chapter 4.)
-#[derive(Clone, Copy, Debug, PartialEq, Eq)]
+#[derive(Clone, Copy, PartialEq, Eq)]
 pub enum Op {
     /// A store of a value of 32 bits.
     St(Addr, u32),

@@ -9,7 +9,7 @@ use std::marker::Model;
 
 /// How many cores a random program has, how many operations each of them, and how many addresses
 /// they are drawn from.
-#[derive(Clone, Copy, Debug, PartialEq, Eq)]
+#[derive(Clone, Copy, PartialEq, Eq)]
 pub struct Shape {
     cores: usize,
     ops: usize,

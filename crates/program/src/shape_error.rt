@@ -2,7 +2,7 @@
 
 /// Why the sizes of random programs or of their trials are refused. Where several apply, the first in
 /// this order is answered.
-#[derive(Clone, Copy, Debug, Drop, PartialEq, Eq)]
+#[derive(Clone, Copy, Drop, PartialEq, Eq)]
 pub enum ShapeError {
     /// The number of cores is not from 1 to `MAX_CORES`.
     K1,

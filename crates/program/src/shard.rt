@@ -4,7 +4,7 @@ ghost use Rattle.std.specs.Prelude.{◌≡◌, ◌<◌, ◌≤◌};
 ghost use Rattle.program.specs.Shards.{AllShardsHaveAllTrials, EveryShardEndsAfterItsBeginning, trials_of_first};
 
 /// One of the parts of a campaign, of which some have one trial more than others.
-#[derive(Clone, Copy, Debug, Drop, PartialEq, Eq)]
+#[derive(Clone, Copy, Drop, PartialEq, Eq)]
 pub struct Shard {
     /// Which it is, from 1.
     pub number: u32,
@@ -13,7 +13,7 @@ pub struct Shard {
 }
 
 /// Trials of a campaign that follow each other.
-#[derive(Clone, Copy, Debug, Drop, PartialEq, Eq)]
+#[derive(Clone, Copy, Drop, PartialEq, Eq)]
 pub struct Part {
     /// The number of the first, from 0.
     pub first: u64,

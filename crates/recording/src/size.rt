@@ -9,7 +9,7 @@ use common::{
 };
 
 /// How large a recording may be.
-#[derive(Clone, Copy, Debug, Drop, PartialEq, Eq)]
+#[derive(Clone, Copy, Drop, PartialEq, Eq)]
 pub enum RecordingSize {
     /// As large as a program: at most `MAX_CORES` cores, `MAX_EVENTS` events and `MAX_ADDRESSES` addresses.
     Short,

@@ -2,7 +2,7 @@
 
 /// A refusal: what its line has, and what it means. The type of its texts is a parameter, so that a clause can name the
 /// constants.
-#[derive(Clone, Copy, Debug, Drop)]
+#[derive(Clone, Copy, Drop)]
 pub struct Refusal<T> {
     /// Its name.
     pub name: T,

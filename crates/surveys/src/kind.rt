@@ -1,7 +1,7 @@
 //! What the lines of a survey are.
 
 /// What each line is, and so what it comes to.
-#[derive(Clone, Copy, Debug, Drop, PartialEq, Eq)]
+#[derive(Clone, Copy, Drop, PartialEq, Eq)]
 pub enum LineKind {
     /// A recording, which is judged.
     Recording,

@@ -3,7 +3,7 @@
 use devices::{Failed, Source};
 
 /// Which lines of a source are surveyed.
-#[derive(Clone, Copy, Debug, Drop, PartialEq, Eq)]
+#[derive(Clone, Copy, Drop, PartialEq, Eq)]
 pub struct LineRange {
     /// The number of the first, from 1.
     pub first: u64,

@@ -4,7 +4,7 @@ use common::OutOfMemory;
 use std::alloc::AllocFailed;
 
 /// Why a text that is read line by line gave nothing.
-#[derive(Clone, Copy, Debug, Drop, PartialEq, Eq)]
+#[derive(Clone, Copy, Drop, PartialEq, Eq)]
 pub enum LineError<F> {
     /// The first line at fault, counted from 1.
     AtLine(F, usize),

@@ -5,7 +5,7 @@ ghost use Rattle.std.specs.List.{list_all};
 ghost use Rattle.texts.specs.Decimals.{is_digit, is_decimal, value_from, decimal_of, IsValue, AreValues};
 
 /// A number that was read.
-#[derive(Clone, Copy, Debug, PartialEq, Eq)]
+#[derive(Clone, Copy, PartialEq, Eq)]
 pub enum Number {
     /// A number of at most 32 bits.
     Value(u32),

@@ -61,7 +61,7 @@ impl DeskSeat {
 }
 
 /// What the word of a trial says.
-#[derive(Clone, Copy, PartialEq, Eq, Debug)]
+#[derive(Clone, Copy, PartialEq, Eq)]
 pub enum Look {
     /// No seat has claimed the trial.
     Open,

@@ -63,19 +63,30 @@ fn is_why(
     Ok(blocked(machine, steps, word, step) == why)
 }
 
+/// The steps that come first, the word, a step after its own, and why that is blocked.
+type Row = (&'static [Step], u64, Step, Option<Blocked>);
+
+const ROWS: &[Row] = &[
+    (&[], 0, Step::Drain(0), Some(Blocked::B5)),
+    (
+        &[Step::Exec(1), Step::GetM(1, 1)],
+        3,
+        Step::Drain(1),
+        Some(Blocked::B6),
+    ),
+    (&[Step::GetS(1, 0)], 4, Step::GetS(0, 0), Some(Blocked::B7)),
+    (&[Step::GetS(1, 0)], 4, Step::GetM(0, 0), None),
+    (&[Step::GetS(0, 1)], 7, Step::GetS(1, 1), Some(Blocked::B7)),
+    (&[Step::GetS(1, 0)], 8, Step::GetM(0, 0), Some(Blocked::B7)),
+    (&[Step::GetS(0, 1)], 11, Step::GetM(1, 1), Some(Blocked::B7)),
+    (&[Step::GetS(0, 0)], 12, Step::GetS(0, 0), None),
+    (&[Step::GetS(1, 1)], 15, Step::GetS(1, 1), None),
+];
+
 #[test]
 fn a_word_names_a_step(rt: HostRuntime) -> Result<(), Fail> {
-    let alloc = rt.alloc();
-    let line = Some(Blocked::B7);
-    assert!(rt; is_why(alloc, &[], 0, Step::Drain(0), Some(Blocked::B5))?);
-    let ready = [Step::Exec(1), Step::GetM(1, 1)];
-    assert!(rt; is_why(alloc, &ready, 3, Step::Drain(1), Some(Blocked::B6))?);
-    assert!(rt; is_why(alloc, &[Step::GetS(1, 0)], 4, Step::GetS(0, 0), line)?);
-    assert!(rt; is_why(alloc, &[Step::GetS(1, 0)], 4, Step::GetM(0, 0), None)?);
-    assert!(rt; is_why(alloc, &[Step::GetS(0, 1)], 7, Step::GetS(1, 1), line)?);
-    assert!(rt; is_why(alloc, &[Step::GetS(1, 0)], 8, Step::GetM(0, 0), line)?);
-    assert!(rt; is_why(alloc, &[Step::GetS(0, 1)], 11, Step::GetM(1, 1), line)?);
-    assert!(rt; is_why(alloc, &[Step::GetS(0, 0)], 12, Step::GetS(0, 0), None)?);
-    assert!(rt; is_why(alloc, &[Step::GetS(1, 1)], 15, Step::GetS(1, 1), None)?);
+    for &(steps, word, step, why) in ROWS {
+        assert!(rt; is_why(rt.alloc(), steps, word, step, why)?);
+    }
     Ok(())
 }

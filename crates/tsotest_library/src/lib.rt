@@ -20,8 +20,6 @@ mod judging;
 mod listing;
 mod rendering;
 mod states;
-#[cfg(test)]
-mod tests;
 
 use answers::Rendering;
 use common::VERSION_LINE;

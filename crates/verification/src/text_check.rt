@@ -1,7 +1,7 @@
 //! Whether a text is that of a verdict that holds.
 
 /// Whether a text is that of a verdict that holds of a recording.
-#[derive(Clone, Copy, Debug, PartialEq, Eq)]
+#[derive(Clone, Copy, PartialEq, Eq)]
 pub enum TextCheck {
     /// It is.
     Holds,
