@@ -1,7 +1,8 @@
 //! The command `survey`.
-ghost use Rattle.std.specs.Prelude.{◌≡◌, ◌≢◌, ◌∷◌, [], IfErr, IfOk, List, string_bytes, true};
+ghost use Rattle.std.specs.Prelude.{◌≡◌, ◌≢◌, ◌∷◌, [], IfErr, IfOk, List, string_bytes};
 ghost use Rattle.std.specs.Io.KnownBytes.{Appends};
 ghost use Rattle.devices.specs.Bytes.{FailsBy};
+ghost use Rattle.surveys.specs.declared.reports.Reports.TheVariants.{EachLine};
 ghost use Rattle.surveys.specs.Surveys.{told_text};
 ghost use Rattle.inputs.specs.Inputs.{ReadsNamed, ReadsInput, is_write_failure};
 ghost use Rattle.commands.specs.Survey.{IsCountsAnswer, IsEachError, IsEachWritten, IsShown, IsSurveyed, IsSurveyOf};
@@ -21,7 +22,9 @@ use report::{Answer, Outcome, long_answer};
 use std::alloc::Global;
 use std::sync::Wait;
 use std::thread::Threads;
-use surveys::{Finding, LineKind, LineRange, LinesOf, SurveyError, SurveyLedger, line_of, survey};
+use surveys::{
+    Finding, LineKind, LineRange, LinesOf, Reports, SurveyError, SurveyLedger, line_of, survey,
+};
 
 /// What the lines are.
 fn line_kind(options: &SurveyOptions) -> LineKind
@@ -106,15 +109,15 @@ fn counted<R: Threads + Wait + Sync, H: Host, W: Sink>(
     options: &SurveyOptions,
     host: &mut H,
     out: &mut W,
-    each: bool,
+    reports: Reports,
 ) -> Result<SurveyLedger, CommandError>
     ensures ok { IfOk result (λ ledger. (findings : List Finding)
         × IsSurveyed (H.bytes host.old) options.now findings ledger
-        × Appends (W.written out.old) (W.written out.new) (told_text each 0 findings)) }
+        × Appends (W.written out.old) (W.written out.new) (told_text reports 0 findings)) }
     ensures error { IfErr result (IsEachError (H.bytes host.old) options.now) }
     ensures reads { ReadsInput (string_bytes options.now.file) (H.log host.old) (H.log host.new) result }
     ensures writes { FailsBy is_write_failure (W.write_failed out.old) (W.write_failed out.new) result }
-    ensures silent { each ≢ true → out.new ≡ out.old }
+    ensures silent { reports ≢ EachLine → out.new ≡ out.old }
 {
     let input = opened(alloc, host, options.file.as_str())?;
     let mut lines = LinesOf::new(input, range_of(options));
@@ -126,7 +129,7 @@ fn counted<R: Threads + Wait + Sync, H: Host, W: Sink>(
         kind,
         &mut lines,
         out,
-        each,
+        reports,
         options.workers,
         &progress,
     );
@@ -157,7 +160,7 @@ pub fn each_command<R: Threads + Wait + Sync, H: Host, W: Sink>(
     ensures reads { ReadsInput (string_bytes options.now.file) (H.log host.old) (H.log host.new) result }
     ensures writes { FailsBy is_write_failure (W.write_failed out.old) (W.write_failed out.new) result }
 {
-    let ledger = counted(rt, alloc, options, host, out, true)?;
+    let ledger = counted(rt, alloc, options, host, out, Reports::EachLine)?;
     let counts = counts_answer(alloc, options.complete, &ledger, CountsPlace::AfterLines)?;
     write_output(out, &counts)
 }
@@ -193,7 +196,7 @@ pub fn survey_command<R: Threads + Wait + Sync, H: Host>(
         }
         None => {
             let mut out = MemorySink::new(alloc);
-            let ledger = counted(rt, alloc, options, host, &mut out, false)?;
+            let ledger = counted(rt, alloc, options, host, &mut out, Reports::NoLine)?;
             let counts = counts_answer(alloc, options.complete, &ledger, CountsPlace::Alone)?;
             Ok(headed(alloc, survey_header(options), counts)?)
         }

@@ -1,5 +1,5 @@
 -- One block more.
-use Rattle.std.proofs.Common.{◌≡◌, ◌+◌, ◌++◌, [], ℕ, List, Bool, Option, Some, None, IfSome, arith, ap, refl, sym}
+use Rattle.std.proofs.Common.{◌≡◌, ◌+◌, ◌++◌, [], ℕ, List, Option, Some, None, IfSome, arith, ap, refl, sym}
 use Rattle.std.proofs.Common.{subst}
 use Rattle.std.proofs.Common.{◌∙◌, append_assoc, append-nil, length, length-append}
 use Rattle.std.proofs.KnownBytes.{Consumes-nil, Consumes-trans}
@@ -8,19 +8,20 @@ use Rattle.devices.specs.Bytes.{Gathers}
 use Rattle.ledger.specs.declared.survey_ledger.SurveyLedger.{SurveyLedger}
 use Rattle.ledger.specs.Surveyed.{IsSurveyLedger}
 use Rattle.surveys.specs.declared.kind.LineKind.{LineKind}
+use Rattle.surveys.specs.declared.reports.Reports.{Reports}
 use Rattle.surveys.proofs.LineLemmas.{whole_nil}
 use Rattle.surveys.specs.Surveys.{IsSurvey, IsSurveyOfRead}
 use Rattle.surveys.specs.Tallies.{IsTallied, IsUnderWay, Ends}
 use Rattle.surveys.proofs.Found.{none_counted}
 
 -- before the first block
-pub begun : (kind : LineKind) (each : Bool) (u s : Option (List ℕ)) (l : SurveyLedger) → IsSurveyLedger [] l
-    → IsUnderWay kind each u u l 0 [] s s
-begun kind each u s l none = record {
+pub begun : (kind : LineKind) (reports : Reports) (u s : Option (List ℕ)) (l : SurveyLedger) → IsSurveyLedger [] l
+    → IsUnderWay kind reports u u l 0 [] s s
+begun kind reports u s l none = record {
   front = [];
   tally = record {
     whole = whole_nil;
-    survey = none_counted kind l each s none;
+    survey = none_counted kind l reports s none;
     size = refl;
   };
   read = Consumes-nil u;
@@ -34,11 +35,12 @@ filled u v w front old new read gathered =
     ∙ ap (λ (t : List ℕ). front ++ t) (sym gathered.2))
     (Consumes-trans u v w (front ++ old) gathered.0 read gathered.1)
 
-module _ (kind : LineKind) (each : Bool) (u v w s t : Option (List ℕ)) (l : SurveyLedger) (n : ℕ) (old block : List ℕ)
-    (way : IsUnderWay kind each u v l n old s t) (gathered : Gathers v w old block) where
+module _ (kind : LineKind) (reports : Reports) (u v w s t : Option (List ℕ)) (l : SurveyLedger) (n : ℕ)
+    (old block : List ℕ)
+    (way : IsUnderWay kind reports u v l n old s t) (gathered : Gathers v w old block) where
   -- a block more was filled and tallied
   pub gone_on : (m : SurveyLedger) (k : ℕ) (rest : List ℕ) (o : Option (List ℕ))
-      → IsTallied kind each block rest l n t m k o → IsUnderWay kind each u w m k rest s o
+      → IsTallied kind reports block rest l n t m k o → IsUnderWay kind reports u w m k rest s o
   gone_on m k rest o tallied = record {
     front = way.front ++ tallied.more;
     tally = tallied.grows way.front s way.tally;
@@ -48,7 +50,7 @@ module _ (kind : LineKind) (each : Bool) (u v w s t : Option (List ℕ)) (l : Su
 
   -- no byte was lost
   pub same_size : (m : SurveyLedger) (k : ℕ) (rest : List ℕ) (o : Option (List ℕ))
-      → IsTallied kind each block rest l n t m k o → k + length rest ≡ n + length block
+      → IsTallied kind reports block rest l n t m k o → k + length rest ≡ n + length block
   same_size m k rest o tallied = omega (
     arith,
     (tallied.grows way.front s way.tally).size,
@@ -59,8 +61,8 @@ module _ (kind : LineKind) (each : Bool) (u v w s t : Option (List ℕ)) (l : Su
   )
 
   -- the last block was filled and counted
-  pub all_read : (m : SurveyLedger) (o : Option (List ℕ)) → Ends kind each block l n t m o
-      → IsSurveyOfRead kind u w m each s o
+  pub all_read : (m : SurveyLedger) (o : Option (List ℕ)) → Ends kind reports block l n t m o
+      → IsSurveyOfRead kind u w m reports s o
   all_read m o ends = record {
     bytes = way.front ++ block;
     read = filled u v w way.front old block way.read gathered;
@@ -68,9 +70,9 @@ module _ (kind : LineKind) (each : Bool) (u v w s t : Option (List ℕ)) (l : Su
   }
 
 -- where the bytes are known, they are all that were read
-pub all_known : (kind : LineKind) (u v : Option (List ℕ)) (l : SurveyLedger) (each : Bool) (s t : Option (List ℕ))
-    → IsSurveyOfRead kind u v l each s t → IsAtEnd v → IfSome u (λ bytes. IsSurvey kind bytes l each s t)
-all_known kind None v l each s t is end = tt
-all_known kind (Some xs) None l each s t is end = absurd is.read
-all_known kind (Some xs) (Some ys) l each s t is end = subst (λ (bytes : List ℕ). IsSurvey kind bytes l each s t)
+pub all_known : (kind : LineKind) (u v : Option (List ℕ)) (l : SurveyLedger) (reports : Reports) (s t : Option (List ℕ))
+    → IsSurveyOfRead kind u v l reports s t → IsAtEnd v → IfSome u (λ bytes. IsSurvey kind bytes l reports s t)
+all_known kind None v l reports s t is end = tt
+all_known kind (Some xs) None l reports s t is end = absurd is.read
+all_known kind (Some xs) (Some ys) l reports s t is end = subst (λ (bytes : List ℕ). IsSurvey kind bytes l reports s t)
     (sym (is.read ∙ (ap (λ (x : List ℕ). is.bytes ++ x) end ∙ append-nil is.bytes))) is.survey

@@ -1,7 +1,6 @@
 -- What is found in lines.
 use Rattle.std.proofs.Common.{◌≡◌, ◌<◌, ◌≤◌, ◌+◌, ◌++◌, ◌^◌, ℕ, List, [], ◌∷◌, Option}
 use Rattle.std.proofs.Common.{arith, sym, ap, ◌∙◌, subst, length, length-append, refl}
-use Rattle.std.proofs.Common.{Bool, true, false}
 use Rattle.std.proofs.KnownBytes.{Appends-nil, Appends-trans}
 use Rattle.std.specs.Io.KnownBytes.{Appends}
 use Rattle.std.proofs.lemmas.List.{append_assoc, append-nil, map-append, length-map}
@@ -12,6 +11,8 @@ use Rattle.ledger.specs.Findings.{finding_code}
 use Rattle.ledger.specs.Surveyed.{CanJoinSurveys, AreJoinedSurveys}
 use Rattle.ledger.specs.SurveyedLaws.{joined_surveys}
 use Rattle.surveys.specs.declared.kind.LineKind.{LineKind}
+use Rattle.surveys.specs.declared.reports.Reports.{Reports}
+use Rattle.surveys.specs.declared.reports.Reports.TheVariants.{EachLine, NoLine}
 use Rattle.surveys.specs.Found.{AreFindings, codes_of}
 use Rattle.surveys.proofs.LineLemmas.{few_lines}
 use Rattle.surveys.specs.Lines.{IsCut, lines}
@@ -37,42 +38,42 @@ findings_length kind (l ∷ ls) [] a = absurd a
 findings_length kind (l ∷ ls) (x ∷ xs) a = omega (arith, findings_length kind ls xs a.1)
 
 -- what is told of two lists
-told_append : (each : Bool) (xs ys : List Finding) → told_text each 0 (xs ++ ys)
-    ≡ told_text each 0 xs ++ told_text each (length xs) ys
-told_append false xs ys = refl
-told_append true xs ys = each_append 0 xs ys ∙ ap (λ (n : ℕ). each_text 0 xs ++ each_text n ys) (omega arith)
+told_append : (reports : Reports) (xs ys : List Finding) → told_text reports 0 (xs ++ ys)
+    ≡ told_text reports 0 xs ++ told_text reports (length xs) ys
+told_append NoLine xs ys = refl
+told_append EachLine xs ys = each_append 0 xs ys ∙ ap (λ (n : ℕ). each_text 0 xs ++ each_text n ys) (omega arith)
 
 -- a survey counts as many as there are lines
-survey_size : (kind : LineKind) (ls : List (List ℕ)) (l : SurveyLedger) (each : Bool) (u v : Option (List ℕ))
-    (s : IsSurveyOfLines kind ls l each u v)
+survey_size : (kind : LineKind) (ls : List (List ℕ)) (l : SurveyLedger) (reports : Reports) (u v : Option (List ℕ))
+    (s : IsSurveyOfLines kind ls l reports u v)
     → (l.ledger.total ≡ length s.findings) × (length s.findings ≡ length ls)
-survey_size kind ls l each u v s = (
+survey_size kind ls l reports u v s = (
   s.counted.ledger.total ∙ length-map s.findings finding_code,
   findings_length kind ls s.findings s.found,
 )
 
 -- before the first line
-pub none_counted : (kind : LineKind) (l : SurveyLedger) (each : Bool) (u : Option (List ℕ)) → IsSurveyLedger [] l
-    → IsSurvey kind [] l each u u
-none_counted kind l each u none = record {
+pub none_counted : (kind : LineKind) (l : SurveyLedger) (reports : Reports) (u : Option (List ℕ)) → IsSurveyLedger [] l
+    → IsSurvey kind [] l reports u u
+none_counted kind l reports u none = record {
   findings = [];
   found = tt;
   counted = none;
-  told = nothing each;
+  told = nothing reports;
 }
   where
-    nothing : (b : Bool) → Appends u u (told_text b 0 [])
-    nothing false = Appends-nil u
-    nothing true = Appends-nil u
+    nothing : (r : Reports) → Appends u u (told_text r 0 [])
+    nothing NoLine = Appends-nil u
+    nothing EachLine = Appends-nil u
 
 module _ (kind : LineKind) (all bytes rest : List ℕ) (ls : List (List ℕ)) (fs : List Finding) (l : SurveyLedger)
-    (each : Bool)
-    (u v : Option (List ℕ)) (so_far : IsSurveyUpTo kind all bytes l each u v) (cut : IsCut bytes ls rest)
+    (reports : Reports)
+    (u v : Option (List ℕ)) (so_far : IsSurveyUpTo kind all bytes l reports u v) (cut : IsCut bytes ls rest)
     (found : AreFindings kind ls fs) where
   -- there are no more lines than bytes
   pub few_found : l.ledger.total + length fs ≤ length all
   few_found =
-      let size = survey_size kind so_far.front l each u v so_far.survey in
+      let size = survey_size kind so_far.front l reports u v so_far.survey in
       omega (
         arith,
         size.0,
@@ -96,7 +97,7 @@ module _ (kind : LineKind) (all bytes rest : List ℕ) (ls : List (List ℕ)) (f
       arith,
       length-map so_far.survey.findings finding_code,
       length-map fs finding_code,
-      (survey_size kind so_far.front l each u v so_far.survey).0,
+      (survey_size kind so_far.front l reports u v so_far.survey).0,
       few_found,
       few,
     );
@@ -105,7 +106,7 @@ module _ (kind : LineKind) (all bytes rest : List ℕ) (ls : List (List ℕ)) (f
   -- and are then surveyed
   pub part_joined : (m both : SurveyLedger) (w : Option (List ℕ)) → IsSurveyLedger (codes_of fs) m
       → AreJoinedSurveys l m both
-      → Appends v w (told_text each l.ledger.total fs) → IsSurveyUpTo kind all rest both each u w
+      → Appends v w (told_text reports l.ledger.total fs) → IsSurveyUpTo kind all rest both reports u w
   part_joined m both w counted join told =
       let old : List Finding = so_far.survey.findings in
       record {
@@ -117,15 +118,15 @@ module _ (kind : LineKind) (all bytes rest : List ℕ) (ls : List (List ℕ)) (f
           found = findings_append kind so_far.front ls old fs so_far.survey.found found;
           counted = subst (λ (codes : List ℕ). IsSurveyLedger codes both) (sym (map-append finding_code old fs))
               (joined_surveys (codes_of old) (codes_of fs) l m both so_far.survey.counted counted join);
-          told = subst (λ (text : List ℕ). Appends u w text) (sym (told_append each old fs))
-              (Appends-trans u v w (told_text each 0 old) (told_text each (length old) fs) so_far.survey.told
-              (subst (λ (n : ℕ). Appends v w (told_text each n fs))
-              (survey_size kind so_far.front l each u v so_far.survey).0 told));
+          told = subst (λ (text : List ℕ). Appends u w text) (sym (told_append reports old fs))
+              (Appends-trans u v w (told_text reports 0 old) (told_text reports (length old) fs) so_far.survey.told
+              (subst (λ (n : ℕ). Appends v w (told_text reports n fs))
+              (survey_size kind so_far.front l reports u v so_far.survey).0 told));
         };
       }
 
 -- up to nothing are all lines
-pub all_counted : (kind : LineKind) (bytes : List ℕ) (l : SurveyLedger) (each : Bool) (u v : Option (List ℕ))
-    → IsSurveyUpTo kind bytes [] l each u v → IsSurvey kind bytes l each u v
-all_counted kind bytes l each u v is = subst (λ (ls : List (List ℕ)). IsSurveyOfLines kind ls l each u v)
+pub all_counted : (kind : LineKind) (bytes : List ℕ) (l : SurveyLedger) (reports : Reports) (u v : Option (List ℕ))
+    → IsSurveyUpTo kind bytes [] l reports u v → IsSurvey kind bytes l reports u v
+all_counted kind bytes l reports u v is = subst (λ (ls : List (List ℕ)). IsSurveyOfLines kind ls l reports u v)
     (sym (is.cut ∙ append-nil is.front)) is.survey

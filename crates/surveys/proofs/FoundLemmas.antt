@@ -303,12 +303,12 @@ one_list (l ∷ ls) (x ∷ xs) (y ∷ ys) a b =
 
 -- so bytes have one ledger
 pub one_ledger_of_bytes : EverySurveyCountsTheSame
-one_ledger_of_bytes bytes l m each other s t u v a b = one_ledger (codes_of b.findings) l.ledger m.ledger
+one_ledger_of_bytes bytes l m reports other s t u v a b = one_ledger (codes_of b.findings) l.ledger m.ledger
     (subst (λ (fs : List Finding). IsLedger (codes_of fs) l.ledger)
     (one_list (lines bytes) a.findings b.findings a.found b.found) a.counted.ledger) b.counted.ledger
 
 -- and one text
 pub one_text_of_survey : EverySurveyTellsTheSame
-one_text_of_survey bytes l m each start said told a b = a.told
-    ∙ (ap (λ (fs : List Finding). start ++ told_text each 0 fs)
+one_text_of_survey bytes l m reports start said told a b = a.told
+    ∙ (ap (λ (fs : List Finding). start ++ told_text reports 0 fs)
     (one_list (lines bytes) a.findings b.findings a.found b.found) ∙ sym b.told)

@@ -1,5 +1,5 @@
 -- When an input is too long.
-use Rattle.std.proofs.Common.{◌≡◌, ◌≤◌, ◌+◌, ◌++◌, [], ℕ, List, Bool, Option, Some, None, IfSome, arith, ap, length}
+use Rattle.std.proofs.Common.{◌≡◌, ◌≤◌, ◌+◌, ◌++◌, [], ℕ, List, Option, Some, None, IfSome, arith, ap, length}
 use Rattle.std.proofs.Common.{IfErr, IsErrAnd, Result, Ok, Err}
 use Rattle.std.proofs.Common.{append-nil, length-append, refl, sym, subst}
 use Rattle.std.proofs.KnownBytes.{Consumes-nil, Consumes-trans}
@@ -7,6 +7,7 @@ use Rattle.std.specs.Io.KnownBytes.{Consumes}
 use Rattle.devices.specs.Bytes.{Gathers}
 use Rattle.ledger.specs.declared.survey_ledger.SurveyLedger.{SurveyLedger}
 use Rattle.surveys.specs.declared.kind.LineKind.{LineKind}
+use Rattle.surveys.specs.declared.reports.Reports.{Reports}
 use Rattle.surveys.specs.declared.error.SurveyError.{SurveyError}
 use Rattle.surveys.specs.declared.error.SurveyError.TheVariants.{ReadFailed, WriteFailed, OutOfMemory, TooLong}
 use Rattle.surveys.specs.Shown.{IsReadBeforeLine}
@@ -72,17 +73,17 @@ from_err (Ok x) e Is is same = tt
 from_err (Err x) e Is is same = subst Is (sym same) is
 
 -- while a source is surveyed
-pub long_way : (kind : LineKind) (each : Bool) (u v w s t : Option (List ℕ)) (l : SurveyLedger) (n : ℕ)
+pub long_way : (kind : LineKind) (reports : Reports) (u v w s t : Option (List ℕ)) (l : SurveyLedger) (n : ℕ)
     (old block : List ℕ) (e : SurveyError)
-    → IsUnderWay kind each u v l n old s t → Gathers v w old block → IsLong e (n + length block) → IsLongRead e u w
-long_way kind each u v w s t l n old block e way gathered = long_read e u w (way.front ++ block) (n + length block)
+    → IsUnderWay kind reports u v l n old s t → Gathers v w old block → IsLong e (n + length block) → IsLongRead e u w
+long_way kind reports u v w s t l n old block e way gathered = long_read e u w (way.front ++ block) (n + length block)
     (filled u v w way.front old block way.read gathered)
     (omega (arith, way.tally.size, length-append way.front block))
 
-pub long_under : (kind : LineKind) (each : Bool) (u w s t : Option (List ℕ)) (l : SurveyLedger) (n : ℕ)
+pub long_under : (kind : LineKind) (reports : Reports) (u w s t : Option (List ℕ)) (l : SurveyLedger) (n : ℕ)
     (block : List ℕ) (e : SurveyError)
-    → IsUnderWay kind each u w l n block s t → IsLong e (n + length block) → IsLongRead e u w
-long_under kind each u w s t l n block e way = long_read e u w (way.front ++ block) (n + length block) way.read
+    → IsUnderWay kind reports u w l n block s t → IsLong e (n + length block) → IsLongRead e u w
+long_under kind reports u w s t l n block e way = long_read e u w (way.front ++ block) (n + length block) way.read
     (omega (arith, way.tally.size, length-append way.front block))
 
 -- so many bytes were read

@@ -10,6 +10,7 @@ use crate::each::each_text;
 use crate::engine::Engine;
 use crate::error::SurveyError;
 use crate::filling::last_end;
+use crate::reports::Reports;
 use common::OutOfMemory;
 use devices::{Failed, Sink, write_all};
 use ledger::{Finding, SurveyLedger};
@@ -32,9 +33,10 @@ fn ledger_of(alloc: Global, findings: &[Finding]) -> Result<SurveyLedger, OutOfM
 
 impl<R, G> Engine<'_, R, G> {
     ghost use Rattle.std.specs.Prelude.{◌≡◌, ◌≢◌, ◌<◌, ◌≤◌, ◌+◌, ◌^◌, [], ℕ, List, Option, IfErr, IfOk, OnOk};
-    ghost use Rattle.std.specs.Prelude.{drop, length, false, true};
+    ghost use Rattle.std.specs.Prelude.{drop, length, false};
     ghost use Rattle.std.specs.Io.KnownBytes.{Appends};
     ghost use Rattle.devices.specs.Bytes.{FailsBy};
+    ghost use Rattle.surveys.specs.declared.reports.Reports.TheVariants.{EachLine};
     ghost use Rattle.surveys.specs.Lines.{IsWhole};
     ghost use Rattle.surveys.specs.Surveys.{ExtendsSurvey, IsLong, IsSurveyUpTo, told_text};
     ghost use Rattle.surveys.specs.Surveys.{is_read_failure, is_write_failure};
@@ -49,13 +51,13 @@ impl<R, G> Engine<'_, R, G> {
     ) -> Result<(), SurveyError>
         requires numbers { first + length findings.now < 2 ^ 64 }
         ensures ok { OnOk result
-            (Appends (W.written sink.old) (W.written sink.new) (told_text self.now.each first findings.now)) }
+            (Appends (W.written sink.old) (W.written sink.new) (told_text self.now.reports first findings.now)) }
         ensures short { IfErr result (λ e. IsLong e 0) }
         ensures reads { IfErr result (λ e. is_read_failure e ≡ false) }
         ensures writes { FailsBy is_write_failure (W.write_failed sink.old) (W.write_failed sink.new) result }
-        ensures silent { self.now.each ≢ true → sink.new ≡ sink.old }
+        ensures silent { self.now.reports ≢ EachLine → sink.new ≡ sink.old }
     {
-        if !self.each {
+        if self.reports == Reports::NoLine {
             return Ok(());
         }
         let text = each_text(self.alloc, first, findings)?;
@@ -76,13 +78,13 @@ impl<R, G> Engine<'_, R, G> {
         batch: Batch,
     ) -> Result<(), SurveyError>
         requires { (all : List ℕ) × (start : Option (List ℕ)) × (length all < 2 ^ 64)
-            × IsSurveyUpTo self.now.kind all batch ledger.old self.now.each start (W.written sink.old) }
-        ensures ok { OnOk result (ExtendsSurvey self.now.kind batch [] self.now.each
+            × IsSurveyUpTo self.now.kind all batch ledger.old self.now.reports start (W.written sink.old) }
+        ensures ok { OnOk result (ExtendsSurvey self.now.kind batch [] self.now.reports
             ledger.old (W.written sink.old) ledger.new (W.written sink.new)) }
         ensures short { IfErr result (λ e. IsLong e 0) }
         ensures reads { IfErr result (λ e. is_read_failure e ≡ false) }
         ensures writes { FailsBy is_write_failure (W.write_failed sink.old) (W.write_failed sink.new) result }
-        ensures silent { self.now.each ≢ true → sink.new ≡ sink.old }
+        ensures silent { self.now.reports ≢ EachLine → sink.new ≡ sink.old }
     {
         let findings = batch.into_findings(self.alloc, self.kind)?;
         let more = ledger_of(self.alloc, &findings)?;
@@ -99,18 +101,18 @@ impl<R, G> Engine<'_, R, G> {
         batch: Batch,
     ) -> Result<(), SurveyError>
         requires { (front : List ℕ) × (start : Option (List ℕ))
-            × IsTally self.now.kind self.now.each front counted.old.ledger counted.old.bytes start
+            × IsTally self.now.kind self.now.reports front counted.old.ledger counted.old.bytes start
             (W.written sink.old) }
-        ensures grows { OnOk result (IsWhole batch → Grows self.now.kind self.now.each batch counted.old.ledger
+        ensures grows { OnOk result (IsWhole batch → Grows self.now.kind self.now.reports batch counted.old.ledger
             counted.old.bytes (W.written sink.old) counted.new.ledger counted.new.bytes (W.written sink.new)) }
-        ensures ends { OnOk result (Ends self.now.kind self.now.each batch counted.old.ledger counted.old.bytes
+        ensures ends { OnOk result (Ends self.now.kind self.now.reports batch counted.old.ledger counted.old.bytes
             (W.written sink.old) counted.new.ledger (W.written sink.new)) }
         ensures size { OnOk result (counted.new.bytes ≡ counted.old.bytes + length batch) }
         ensures fits { OnOk result (counted.new.bytes < 2 ^ 64) }
         ensures long { IfErr result (λ e. IsLong e (counted.old.bytes + length batch)) }
         ensures reads { IfErr result (λ e. is_read_failure e ≡ false) }
         ensures writes { FailsBy is_write_failure (W.write_failed sink.old) (W.write_failed sink.new) result }
-        ensures silent { self.now.each ≢ true → sink.new ≡ sink.old }
+        ensures silent { self.now.reports ≢ EachLine → sink.new ≡ sink.old }
     {
         let Some(bytes) = counted.bytes.checked_add(batch.bytes().len()) else {
             return Err(SurveyError::TooLong);
@@ -129,10 +131,10 @@ impl<R, G> Engine<'_, R, G> {
         batch: Batch,
     ) -> Result<usize, SurveyError>
         requires { (front : List ℕ) × (start : Option (List ℕ))
-            × IsTally self.now.kind self.now.each front counted.old.ledger counted.old.bytes start
+            × IsTally self.now.kind self.now.reports front counted.old.ledger counted.old.bytes start
             (W.written sink.old) }
         ensures within { IfOk result (λ n. n ≤ length bytes.now) }
-        ensures ok { IfOk result (λ n. IsTallied self.now.kind self.now.each bytes.now (drop n bytes.now)
+        ensures ok { IfOk result (λ n. IsTallied self.now.kind self.now.reports bytes.now (drop n bytes.now)
             counted.old.ledger counted.old.bytes (W.written sink.old)
             counted.new.ledger counted.new.bytes (W.written sink.new)) }
         ensures size { IfOk result (λ n. counted.new.bytes ≡ counted.old.bytes + n) }
@@ -140,7 +142,7 @@ impl<R, G> Engine<'_, R, G> {
         ensures long { IfErr result (λ e. IsLong e (counted.old.bytes + length bytes.now)) }
         ensures reads { IfErr result (λ e. is_read_failure e ≡ false) }
         ensures writes { FailsBy is_write_failure (W.write_failed sink.old) (W.write_failed sink.new) result }
-        ensures silent { self.now.each ≢ true → sink.new ≡ sink.old }
+        ensures silent { self.now.reports ≢ EachLine → sink.new ≡ sink.old }
     {
         let length = batch.bytes().len();
         if !bytes.starts_with(batch.bytes()) || last_end(batch.bytes(), 0) != length {

@@ -1,8 +1,10 @@
 //! What a survey works by.
 
 use crate::batch::Batch;
+use crate::filling::FillUntil;
 use crate::kind::LineKind;
 use crate::queue::{Turn, WorkQueue};
+use crate::reports::Reports;
 use common::Gate;
 use std::alloc::Global;
 use std::sync::Wait;
@@ -15,24 +17,35 @@ const REPORTED_AT_ONCE: usize = 64;
 const BATCHES_OF_WORKER: usize = 4;
 
 /// How many recordings lie on the queue at most.
-pub(crate) fn room_of(each: bool) -> usize {
-    if each { REPORTED_AT_ONCE } else { usize::MAX }
+pub(crate) fn room_of(reports: Reports) -> usize {
+    match reports {
+        Reports::EachLine => REPORTED_AT_ONCE,
+        Reports::NoLine => usize::MAX,
+    }
 }
 
 /// How many recordings are in a batch at most, for this many workers.
-pub(crate) fn batch_of(each: bool, workers: usize) -> usize {
+pub(crate) fn batch_of(reports: Reports, workers: usize) -> usize {
     let batches = BATCHES_OF_WORKER.saturating_mul(workers.max(1));
-    (room_of(each) / batches.min(REPORTED_AT_ONCE)).max(1)
+    (room_of(reports) / batches.min(REPORTED_AT_ONCE)).max(1)
 }
 
-/// What a survey works by: what waits, memory, what the lines are, whether each recording is reported, who hears of
-/// them, where batches of lines wait for workers, and how many recordings are in a batch at most.
+/// Until when a block is filled: what is reported does not wait for a read that may wait.
+pub(crate) fn fill_until(reports: Reports) -> FillUntil {
+    match reports {
+        Reports::EachLine => FillUntil::ShortRead,
+        Reports::NoLine => FillUntil::Doubled,
+    }
+}
+
+/// What a survey works by: what waits, memory, what the lines are, which of them are reported, who hears of them, where
+/// batches of lines wait for workers, and how many recordings are in a batch at most.
 #[derive(Drop)]
 pub(crate) struct Engine<'a, R, G> {
     pub(crate) rt: &'a R,
     pub(crate) alloc: Global,
     pub(crate) kind: LineKind,
-    pub(crate) each: bool,
+    pub(crate) reports: Reports,
     pub(crate) gate: &'a G,
     pub(crate) queue: &'a WorkQueue,
     pub(crate) batch: usize,
@@ -73,7 +86,7 @@ impl<R: Wait, G: Gate> Engine<'_, R, G> {
     /// lines are written at once.
     fn joined(&self, mut batch: Batch) -> Batch {
         for _ in 0..REPORTED_AT_ONCE {
-            if !self.each || !self.has_room(&mut batch) {
+            if self.reports == Reports::NoLine || !self.has_room(&mut batch) {
                 break;
             }
             let Some(more) = self.queue.collect(self.rt) else {

@@ -19,13 +19,21 @@ pub(crate) const BLOCK: usize = 4_194_304;
 /// How many bytes a block is filled up to at least, unless it takes what there is.
 const LEAST: usize = 2 * CHUNK;
 
-/// Fills up a block to twice what it has, or, where it is to be prompt, takes what there is, until a chunk is not full;
-/// false where the source has ended.
+/// Until when a block is filled.
+#[derive(Clone, Copy, Drop, PartialEq, Eq)]
+pub(crate) enum FillUntil {
+    /// Until it has twice what it had.
+    Doubled,
+    /// Until it has that, or a read gives less than a chunk: so it takes what there is.
+    ShortRead,
+}
+
+/// Fills up a block until it has what is wanted; false where the source has ended.
 pub(crate) fn fill<R: Source>(
     source: &mut R,
     chunk: &mut [u8],
     block: &mut Vec<u8>,
-    prompt: bool,
+    until: FillUntil,
 ) -> Result<bool, SurveyError>
     requires room { 0 < length chunk.old }
     ensures kept { length chunk.new ≡ length chunk.old }
@@ -44,7 +52,7 @@ pub(crate) fn fill<R: Source>(
         return Ok(false);
     }
     let mut is_full = first == chunk.len();
-    'chunks: while block.len() < size && (is_full || !prompt) {
+    'chunks: while block.len() < size && (is_full || until == FillUntil::Doubled) {
         let next = read_more(source, chunk, block)?;
         if next == 0 {
             return Ok(false);

@@ -10,8 +10,9 @@ use std::sync::Wait;
 
 impl<R: Wait, G: Gate> Engine<'_, R, G> {
     ghost use Rattle.std.specs.Prelude.{◌≡◌, ◌≢◌, ◌<◌, ◌≤◌, ◌+◌, ◌^◌, ℕ, List, Option, IfErr, IfOk, OnOk};
-    ghost use Rattle.std.specs.Prelude.{drop, false, length, true};
+    ghost use Rattle.std.specs.Prelude.{drop, false, length};
     ghost use Rattle.devices.specs.Bytes.{FailsBy};
+    ghost use Rattle.surveys.specs.declared.reports.Reports.TheVariants.{EachLine};
     ghost use Rattle.surveys.specs.Surveys.{IsLong, is_read_failure, is_write_failure};
     ghost use Rattle.surveys.specs.Tallies.{IsTallied, IsTally};
 
@@ -26,11 +27,11 @@ impl<R: Wait, G: Gate> Engine<'_, R, G> {
         kept: usize,
     ) -> Result<usize, SurveyError>
         requires tally { (front : List ℕ) × (start : Option (List ℕ))
-            × IsTally self.now.kind self.now.each front counted.old.ledger counted.old.bytes start
+            × IsTally self.now.kind self.now.reports front counted.old.ledger counted.old.bytes start
             (W.written sink.old) }
         requires end { end ≤ length bytes.now }
         ensures within { IfOk result (λ n. n ≤ length bytes.now) }
-        ensures ok { IfOk result (λ n. IsTallied self.now.kind self.now.each bytes.now (drop n bytes.now)
+        ensures ok { IfOk result (λ n. IsTallied self.now.kind self.now.reports bytes.now (drop n bytes.now)
             counted.old.ledger counted.old.bytes (W.written sink.old)
             counted.new.ledger counted.new.bytes (W.written sink.new)) }
         ensures size { IfOk result (λ n. counted.new.bytes ≡ counted.old.bytes + n) }
@@ -38,7 +39,7 @@ impl<R: Wait, G: Gate> Engine<'_, R, G> {
         ensures long { IfErr result (λ e. IsLong e (counted.old.bytes + length bytes.now)) }
         ensures reads { IfErr result (λ e. is_read_failure e ≡ false) }
         ensures writes { FailsBy is_write_failure (W.write_failed sink.old) (W.write_failed sink.new) result }
-        ensures silent { self.now.each ≢ true → sink.new ≡ sink.old }
+        ensures silent { self.now.reports ≢ EachLine → sink.new ≡ sink.old }
     {
         let mut from = 0;
         'batches: while from < bytes.len() {
@@ -68,16 +69,16 @@ impl<R: Wait, G: Gate> Engine<'_, R, G> {
         kept: usize,
     ) -> Result<(), SurveyError>
         requires { (front : List ℕ) × (start : Option (List ℕ))
-            × IsTally self.now.kind self.now.each front counted.old.ledger counted.old.bytes start
+            × IsTally self.now.kind self.now.reports front counted.old.ledger counted.old.bytes start
             (W.written sink.old) }
-        ensures ok { OnOk result (IsTallied self.now.kind self.now.each block.old.items block.new.items
+        ensures ok { OnOk result (IsTallied self.now.kind self.now.reports block.old.items block.new.items
             counted.old.ledger counted.old.bytes (W.written sink.old)
             counted.new.ledger counted.new.bytes (W.written sink.new)) }
         ensures fits { OnOk result (counted.old.bytes < 2 ^ 64 → counted.new.bytes < 2 ^ 64) }
         ensures long { IfErr result (λ e. IsLong e (counted.old.bytes + length block.old.items)) }
         ensures reads { IfErr result (λ e. is_read_failure e ≡ false) }
         ensures writes { FailsBy is_write_failure (W.write_failed sink.old) (W.write_failed sink.new) result }
-        ensures silent { self.now.each ≢ true → sink.new ≡ sink.old }
+        ensures silent { self.now.reports ≢ EachLine → sink.new ≡ sink.old }
     {
         let end = last_end(block, seen);
         let length = self.count_batches(sink, counted, block, end, kept)?;

@@ -7,7 +7,7 @@ ghost use Rattle.surveys.specs.Shown.{IsLineOfRead, IsReadOn, IsSought, IsSought
 ghost use Rattle.surveys.specs.Surveys.{IsLong, IsLongRead, is_read_failure, is_write_failure};
 
 use crate::error::SurveyError;
-use crate::filling::{CHUNK, fill, keep_rest, last_end};
+use crate::filling::{CHUNK, FillUntil, fill, keep_rest, last_end};
 use crate::lines::split_line;
 use common::OutOfMemory;
 use devices::Source;
@@ -82,7 +82,7 @@ fn read_rest<R: Source>(
 {
     let mut counted = 0usize;
     block.clear();
-    'filled: while fill(source, chunk, block, true)? {
+    'filled: while fill(source, chunk, block, FillUntil::ShortRead)? {
         let Some(total) = counted.checked_add(block.len()) else {
             return Err(SurveyError::TooLong);
         };
@@ -112,7 +112,7 @@ fn line_from<R: Source>(
     let mut left = number;
     let mut counted = 0usize;
     let mut seen = 0;
-    'filled: while fill(source, chunk, &mut block, false)? {
+    'filled: while fill(source, chunk, &mut block, FillUntil::Doubled)? {
         let (sought, end) = line_in_whole(alloc, &mut block, seen, left)?;
         left = match sought {
             Sought::Found(line) => {

@@ -5,6 +5,7 @@ ghost use Rattle.std.specs.Prelude.{length};
 ghost use Rattle.std.specs.Io.KnownBytes.{IsAtEnd};
 ghost use Rattle.devices.specs.Bytes.{FailsBy};
 ghost use Rattle.ledger.specs.Surveyed.{IsSurveyLedger};
+ghost use Rattle.surveys.specs.declared.reports.Reports.TheVariants.{EachLine};
 ghost use Rattle.surveys.specs.OneSurvey.{EveryLineHasOneFinding, EverySurveyCountsTheSame};
 ghost use Rattle.surveys.specs.OneSurvey.{EverySurveyTellsTheSame};
 ghost use Rattle.surveys.specs.Surveys.{IsLong, IsLongRead, IsSurvey, IsSurveyOfRead, is_read_failure};
@@ -12,12 +13,13 @@ ghost use Rattle.surveys.specs.Surveys.{is_write_failure};
 
 use crate::batch::Batch;
 use crate::counting::Counted;
-use crate::engine::{Engine, batch_of, room_of};
+use crate::engine::{Engine, batch_of, fill_until, room_of};
 use crate::error::SurveyError;
 use crate::filling::{BLOCK, CHUNK, fill};
 use crate::kind::LineKind;
 use crate::law::a_survey_is_one;
 use crate::queue::WorkQueue;
+use crate::reports::Reports;
 use crate::workers::with_workers;
 use common::Gate;
 use devices::{Sink, Source};
@@ -43,18 +45,20 @@ fn count_blocks<T: Wait, R: Source, W: Sink, G: Gate>(
     requires empty { block.old.items ≡ [] }
     requires none { IsSurveyLedger [] counted.old.ledger × (counted.old.bytes ≡ 0) }
     ensures whole { OnOk result (IsSurveyOfRead engine.now.kind (R.left source.old) (R.left source.new)
-        counted.new.ledger engine.now.each (W.written sink.old) (W.written sink.new)) }
+        counted.new.ledger engine.now.reports (W.written sink.old) (W.written sink.new)) }
     ensures met { OnOk result (R.is_ended source.new ≡ true) }
     ensures all { OnOk result (IsAtEnd (R.left source.new)) }
     ensures long { IfErr result (λ e. IsLongRead e (R.left source.old) (R.left source.new)) }
     ensures reads { FailsBy is_read_failure (R.read_failed source.old) (R.read_failed source.new) result }
     ensures writes { FailsBy is_write_failure (W.write_failed sink.old) (W.write_failed sink.new) result }
-    ensures silent { engine.now.each ≢ true → sink.new ≡ sink.old }
+    ensures silent { engine.now.reports ≢ EachLine → sink.new ≡ sink.old }
 {
     let mut seen = 0;
-    'filled: while fill(source, chunk, block, engine.each)? {
+    let until = fill_until(engine.reports);
+    'filled: while fill(source, chunk, block, until)? {
         // After a chunk that is not full the next read may wait, and what is reported does not wait for it.
-        let waits = engine.each && block.len().wrapping_sub(seen) % CHUNK != 0;
+        let waits = engine.reports == Reports::EachLine
+            && block.len().wrapping_sub(seen) % CHUNK != 0;
         engine.count_offered(sink, counted, block, seen, if waits { 0 } else { KEPT })?;
         seen = block.len();
     }
@@ -79,13 +83,13 @@ fn count_by_workers<T: Threads + Wait + Sync, R: Source, W: Sink, G: Gate>(
     requires room { 0 < length chunk.old }
     requires none { IsSurveyLedger [] counted.old.ledger × (counted.old.bytes ≡ 0) }
     ensures whole { OnOk result (IsSurveyOfRead engine.now.kind (R.left source.old) (R.left source.new)
-        counted.new.ledger engine.now.each (W.written sink.old) (W.written sink.new)) }
+        counted.new.ledger engine.now.reports (W.written sink.old) (W.written sink.new)) }
     ensures met { OnOk result (R.is_ended source.new ≡ true) }
     ensures all { OnOk result (IsAtEnd (R.left source.new)) }
     ensures long { IfErr result (λ e. IsLongRead e (R.left source.old) (R.left source.new)) }
     ensures reads { FailsBy is_read_failure (R.read_failed source.old) (R.read_failed source.new) result }
     ensures writes { FailsBy is_write_failure (W.write_failed sink.old) (W.write_failed sink.new) result }
-    ensures silent { engine.now.each ≢ true → sink.new ≡ sink.old }
+    ensures silent { engine.now.reports ≢ EachLine → sink.new ≡ sink.old }
 {
     let mut block = Vec::new(engine.alloc);
     let block = &mut block;
@@ -99,47 +103,47 @@ fn count_by_workers<T: Threads + Wait + Sync, R: Source, W: Sink, G: Gate>(
         requires { (0 < length chunk.now) × IsSurveyLedger [] counted.now.ledger × (counted.now.bytes ≡ 0)
             × (block.now.items ≡ []) }
         ensures { OnOk result (IsSurveyOfRead engine.entry.now.kind (R.left source.entry.now) (R.left source.exit.now)
-            counted.exit.now.ledger engine.entry.now.each (W.written sink.entry.now) (W.written sink.exit.now))
+            counted.exit.now.ledger engine.entry.now.reports (W.written sink.entry.now) (W.written sink.exit.now))
             × OnOk result (R.is_ended source.exit.now ≡ true)
             × OnOk result (IsAtEnd (R.left source.exit.now))
             × IfErr result (λ e. IsLongRead e (R.left source.entry.now) (R.left source.exit.now))
             × FailsBy is_read_failure (R.read_failed source.entry.now) (R.read_failed source.exit.now) result
             × FailsBy is_write_failure (W.write_failed sink.entry.now) (W.write_failed sink.exit.now) result
-            × (engine.entry.now.each ≢ true → sink.exit.now ≡ sink.entry.now) }
+            × (engine.entry.now.reports ≢ EachLine → sink.exit.now ≡ sink.entry.now) }
     { count_blocks(engine, source, sink, counted, chunk, block) };
     with_workers(engine, workers, &mut counting)
 }
 
 /// Reads the lines of a source to its end, a recording each, judges them by this many workers, at most `MAX_WORKERS`,
-/// and counts them in order. Where each is reported, its line is written to the sink; else nothing is written. The
-/// calling thread is a worker, and reads. Each other worker has a thread of its own where one can be made, for as long
-/// as the survey lasts. The gate hears that a worker begins a recording, that
-/// it is a violation, and that the worker is done, by the numbers of the recordings, from 0. Fails by `ReadFailed`
-/// exactly where a read failed, by `WriteFailed` where a write did, and by `TooLong` only where 2^64 bytes or more were
-/// read. The memory is that of two blocks, or of the longest line, whatever the length. Where lines are recordings
-/// within the small limits, one thing is found in a line, however often and by however many workers it is judged, so
-/// any two surveys of the same bytes count and report the same.
+/// and counts them in order. Where each line is reported, what is found in it is written to the sink; else nothing is
+/// written. The calling thread is a worker, and reads. Each other worker has a thread of its own where one can be made,
+/// for as long as the survey lasts. The gate hears that a worker begins a recording, that it is a violation, and that
+/// the worker is done, by the numbers of the recordings, from 0. Fails by `ReadFailed` exactly where a read failed, by
+/// `WriteFailed` where a write did, and by `TooLong` only where 2^64 bytes or more were read. The memory is that of two
+/// blocks, or of the longest line, whatever the length. Where lines are recordings within the small limits, one thing
+/// is found in a line, however often and by however many workers it is judged, so any two surveys of the same bytes
+/// count and report the same.
 pub fn survey<T: Threads + Wait + Sync, R: Source, W: Sink, G: Gate>(
     rt: &T,
     alloc: Global,
     kind: LineKind,
     source: &mut R,
     sink: &mut W,
-    each: bool,
+    reports: Reports,
     workers: usize,
     gate: &G,
 ) -> Result<SurveyLedger, SurveyError>
     ensures whole { IfOk result (λ ledger. IsSurveyOfRead kind (R.left source.old) (R.left source.new) ledger
-        each (W.written sink.old) (W.written sink.new)) }
+        reports (W.written sink.old) (W.written sink.new)) }
     ensures known { IfOk result (λ ledger. IfSome (R.left source.old) (λ bytes. IsSurvey kind bytes ledger
-        each (W.written sink.old) (W.written sink.new))) }
+        reports (W.written sink.old) (W.written sink.new))) }
     ensures met { OnOk result (R.is_ended source.new ≡ true) }
     ensures all { OnOk result (IsAtEnd (R.left source.new)) }
     ensures long { IfErr result (λ e. IsLongRead e (R.left source.old) (R.left source.new)) }
     ensures long_known { IfErr result (λ e. IfSome (R.left source.old) (λ bytes. IsLong e (length bytes))) }
     ensures reads { FailsBy is_read_failure (R.read_failed source.old) (R.read_failed source.new) result }
     ensures writes { FailsBy is_write_failure (W.write_failed sink.old) (W.write_failed sink.new) result }
-    ensures silent { each ≢ true → sink.new ≡ sink.old }
+    ensures silent { reports ≢ EachLine → sink.new ≡ sink.old }
     ensures findings { EveryLineHasOneFinding }
     ensures counts { EverySurveyCountsTheSame }
     ensures texts { EverySurveyTellsTheSame }
@@ -152,15 +156,15 @@ pub fn survey<T: Threads + Wait + Sync, R: Source, W: Sink, G: Gate>(
     let Ok(mut chunk) = Vec::from_elem(alloc, 0u8, CHUNK) else {
         return Err(SurveyError::OutOfMemory);
     };
-    let queue = WorkQueue::new(alloc, room_of(each))?;
+    let queue = WorkQueue::new(alloc, room_of(reports))?;
     let engine = Engine {
         rt,
         alloc,
         kind,
-        each,
+        reports,
         gate,
         queue: &queue,
-        batch: batch_of(each, workers),
+        batch: batch_of(reports, workers),
     };
     count_by_workers(&engine, source, sink, &mut counted, &mut chunk, workers)?;
     let Counted { ledger, bytes: _ } = counted;

@@ -15,14 +15,14 @@ fn start_workers<'s, E, R: Threads + Wait + Sync, G: Gate>(
     workers: usize,
 ) {
     let (rt, alloc, kind) = (engine.rt, engine.alloc, engine.kind);
-    let (each, gate, queue, batch) = (engine.each, engine.gate, engine.queue, engine.batch);
+    let (reports, gate, queue, batch) = (engine.reports, engine.gate, engine.queue, engine.batch);
     for worker in 1..workers.min(MAX_WORKERS) {
         let _ = scope.spawn(move || {
             Engine {
                 rt,
                 alloc,
                 kind,
-                each,
+                reports,
                 gate,
                 queue,
                 batch,

@@ -13,7 +13,7 @@ use std::sync::atomic::{AtomicBool, AtomicU64, Ordering};
 use std::test::Fail;
 use std::thread::Threads;
 use std::time::{Duration, Instant};
-use surveys::{LineKind, survey};
+use surveys::{LineKind, Reports, survey};
 
 /// How long a campaign of one worker takes from the beginning of each trial to its end.
 struct Lasting<'a> {
@@ -180,7 +180,7 @@ fn is_prompt<R: Threads + Wait + Sync>(
         LineKind::Recording,
         &mut source,
         &mut sink,
-        true,
+        Reports::EachLine,
         workers,
         &gate,
     );

@@ -14,7 +14,7 @@ use std::sync::atomic::{AtomicBool, AtomicU64, Ordering};
 use std::test::Fail;
 use std::thread;
 use std::thread::Threads;
-use surveys::{LineKind, survey};
+use surveys::{LineKind, Reports, survey};
 
 /// Where each worker waits, when it is there first, until all are.
 #[derive(Drop)]
@@ -180,7 +180,7 @@ impl<T: Source> Source for Late<T> {
 fn is_survey_met<R: Threads + Wait + Sync>(
     rt: &R,
     alloc: Global,
-    each: bool,
+    reports: Reports,
     call: Call,
     workers: usize,
 ) -> Result<bool, AllocError> {
@@ -197,7 +197,7 @@ fn is_survey_met<R: Threads + Wait + Sync>(
         LineKind::Recording,
         &mut source,
         &mut sink,
-        each,
+        reports,
         workers,
         &gate,
     );
@@ -206,16 +206,16 @@ fn is_survey_met<R: Threads + Wait + Sync>(
 
 #[test]
 fn each_worker_of_a_survey_is_at_work(rt: HostRuntime) -> Result<(), Fail> {
-    assert!(rt; is_survey_met(&rt, rt.alloc(), false, Call::Begin, 3)?);
-    assert!(rt; is_survey_met(&rt, rt.alloc(), false, Call::Found, 2)?);
-    assert!(rt; is_survey_met(&rt, rt.alloc(), false, Call::Done, 2)?);
+    assert!(rt; is_survey_met(&rt, rt.alloc(), Reports::NoLine, Call::Begin, 3)?);
+    assert!(rt; is_survey_met(&rt, rt.alloc(), Reports::NoLine, Call::Found, 2)?);
+    assert!(rt; is_survey_met(&rt, rt.alloc(), Reports::NoLine, Call::Done, 2)?);
     Ok(())
 }
 
 #[test]
 fn each_worker_of_reported_recordings_is_at_work(rt: HostRuntime) -> Result<(), Fail> {
-    assert!(rt; is_survey_met(&rt, rt.alloc(), true, Call::Begin, 4)?);
-    assert!(rt; is_survey_met(&rt, rt.alloc(), true, Call::Found, 3)?);
-    assert!(rt; is_survey_met(&rt, rt.alloc(), true, Call::Done, 3)?);
+    assert!(rt; is_survey_met(&rt, rt.alloc(), Reports::EachLine, Call::Begin, 4)?);
+    assert!(rt; is_survey_met(&rt, rt.alloc(), Reports::EachLine, Call::Found, 3)?);
+    assert!(rt; is_survey_met(&rt, rt.alloc(), Reports::EachLine, Call::Done, 3)?);
     Ok(())
 }

@@ -12,7 +12,7 @@ use std::sync::Wait;
 use std::sync::atomic::{AtomicBool, AtomicU64, Ordering};
 use std::test::Fail;
 use std::thread::Threads;
-use surveys::{LineKind, survey};
+use surveys::{LineKind, Reports, survey};
 use trials::Campaign;
 
 /// What was told of each trial or recording, by worker w of eight: 1 + w that it begins, 16 more that it is a
@@ -159,7 +159,7 @@ pub fn many_lines(alloc: Global) -> Result<String, AllocError> {
 fn is_survey_told<R: Threads + Wait + Sync>(
     rt: &R,
     alloc: Global,
-    each: bool,
+    reports: Reports,
     workers: usize,
 ) -> Result<bool, AllocError> {
     let lines = many_lines(alloc)?;
@@ -172,7 +172,7 @@ fn is_survey_told<R: Threads + Wait + Sync>(
         LineKind::Recording,
         &mut source,
         &mut sink,
-        each,
+        reports,
         workers,
         &gate,
     ) else {
@@ -183,8 +183,8 @@ fn is_survey_told<R: Threads + Wait + Sync>(
 
 #[test]
 fn each_recording_begins_once_and_is_done_once_by_one_worker(rt: HostRuntime) -> Result<(), Fail> {
-    assert!(rt; is_survey_told(&rt, rt.alloc(), false, 1)?);
-    assert!(rt; is_survey_told(&rt, rt.alloc(), false, 8)?);
-    assert!(rt; is_survey_told(&rt, rt.alloc(), true, 3)?);
+    assert!(rt; is_survey_told(&rt, rt.alloc(), Reports::NoLine, 1)?);
+    assert!(rt; is_survey_told(&rt, rt.alloc(), Reports::NoLine, 8)?);
+    assert!(rt; is_survey_told(&rt, rt.alloc(), Reports::EachLine, 3)?);
     Ok(())
 }

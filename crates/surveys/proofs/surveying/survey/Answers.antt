@@ -8,7 +8,7 @@ use Rattle.surveys.proofs.surveying.survey.Goals as goal
 pub returns-clause-known : goal.returns-clause-known
 returns-clause-known g c =
     all_known c.args.kind (g.R.Source.left c.args.source.now) (g.R.Source.left c.count_by_workers.new.source)
-    c.count_by_workers.new.counted.ledger c.args.each _ _ c.in_ok-count_by_workers.ensures.whole
+    c.count_by_workers.new.counted.ledger c.args.reports _ _ c.in_ok-count_by_workers.ensures.whole
     c.in_ok-count_by_workers.ensures.all
 
 pub returns-in_err-count_by_workers-clause-long_known : goal.returns-in_err-count_by_workers-clause-long_known

@@ -18,7 +18,7 @@ write_findings-requires g c =
       numbers = omega (
         arith,
         few_found c.args.self.now.kind part.0 c.args.batch [] (lines c.args.batch) c.in_ok-findings.findings.items
-            c.args.ledger.now c.args.self.now.each part.1 _ part.3 (whole_cut c.args.batch) c.in_ok-findings.ensures,
+            c.args.ledger.now c.args.self.now.reports part.1 _ part.3 (whole_cut c.args.batch) c.in_ok-findings.ensures,
         part.2,
         ap (λ (fs : List Finding). length fs) c.deref-2.ensures.value,
       );
@@ -30,7 +30,7 @@ add-requires g c =
     let counted = subst (λ (fs : List Finding). IsSurveyLedger (codes_of fs) c.in_ok-more.more) c.deref.ensures.value
     c.in_ok-more.ensures in
     part_joins c.args.self.now.kind part.0 c.args.batch [] (lines c.args.batch) c.in_ok-findings.findings.items
-    c.args.ledger.now c.args.self.now.each part.1 _ part.3 (whole_cut c.args.batch) c.in_ok-findings.ensures
+    c.args.ledger.now c.args.self.now.reports part.1 _ part.3 (whole_cut c.args.batch) c.in_ok-findings.ensures
     c.in_ok-more.more counted part.2
 
 pub returns-clause-ok : goal.returns-clause-ok
@@ -39,8 +39,8 @@ returns-clause-ok g c = λ all start so_far.
     c.in_ok-more.ensures in
     let told = subst (λ (fs : List Finding). Appends (g.W.Sink.written c.args.sink.now)
     (g.W.Sink.written c.write_findings.new.sink)
-    (told_text c.args.self.now.each c.args.ledger.now.ledger.total fs)) c.deref-2.ensures.value
+    (told_text c.args.self.now.reports c.args.ledger.now.ledger.total fs)) c.deref-2.ensures.value
     c.in_ok-write_findings.ensures.ok in
     part_joined c.args.self.now.kind all c.args.batch [] (lines c.args.batch) c.in_ok-findings.findings.items
-    c.args.ledger.now c.args.self.now.each start _ so_far (whole_cut c.args.batch) c.in_ok-findings.ensures
+    c.args.ledger.now c.args.self.now.reports start _ so_far (whole_cut c.args.batch) c.in_ok-findings.ensures
     c.in_ok-more.more c.add.new.self _ counted c.add.ensures told

@@ -10,7 +10,7 @@ batches-init g c = record {
   within = omega arith;
   size = omega arith;
   fits = λ few. few;
-  tallied = none_tallied c.args.self.now.kind c.args.self.now.each c.args.bytes.now c.args.counted.now.ledger
+  tallied = none_tallied c.args.self.now.kind c.args.self.now.reports c.args.bytes.now c.args.counted.now.ledger
       c.args.counted.now.bytes (g.W.Sink.written c.args.sink.now);
   writes = refl;
   silent = λ quiet. refl;
@@ -19,7 +19,7 @@ batches-init g c = record {
 pub count_first-requires : goal.count_first-requires
 count_first-requires g c =
     let r = c.requires.tally in
-    tally_on c.args.self.now.kind c.args.self.now.each c.args.bytes.now (drop c.batches.from c.args.bytes.now) r.0
+    tally_on c.args.self.now.kind c.args.self.now.reports c.args.bytes.now (drop c.batches.from c.args.bytes.now) r.0
     c.args.counted.now.ledger c.batches.counted.ledger c.args.counted.now.bytes c.batches.counted.bytes r.1 _ _ r.2
     c.batches.invariant.tallied
 
@@ -37,7 +37,7 @@ batches-preserved g c =
       size = omega (arith, c.batches.invariant.size, c.in_ok-length.ensures.size);
       fits = λ few. c.in_ok-length.ensures.fits (c.batches.invariant.fits few);
       tallied =
-          tallied_from c.args.self.now.kind c.args.self.now.each bytes _ c.batches.from c.in_ok-length.length
+          tallied_from c.args.self.now.kind c.args.self.now.reports bytes _ c.batches.from c.in_ok-length.length
           c.args.counted.now.ledger c.batches.counted.ledger c.count_first.new.counted.ledger c.args.counted.now.bytes
           c.batches.counted.bytes c.count_first.new.counted.bytes _ _ _ c.batches.invariant.within rest
           c.batches.invariant.tallied c.in_ok-length.ensures.ok;
@@ -48,7 +48,7 @@ batches-preserved g c =
 pub returns-then-length-eq0-clause-ok : goal.returns-then-length-eq0-clause-ok
 returns-then-length-eq0-clause-ok g c =
     let bytes : List ℕ = c.args.bytes.now in
-    tallied_from c.args.self.now.kind c.args.self.now.each bytes _ c.batches.from c.in_ok-length.length
+    tallied_from c.args.self.now.kind c.args.self.now.reports bytes _ c.batches.from c.in_ok-length.length
     c.args.counted.now.ledger c.batches.counted.ledger c.count_first.new.counted.ledger c.args.counted.now.bytes
     c.batches.counted.bytes c.count_first.new.counted.bytes _ _ _ c.batches.invariant.within
     (take_rest bytes c.batches.from) c.batches.invariant.tallied c.in_ok-length.ensures.ok

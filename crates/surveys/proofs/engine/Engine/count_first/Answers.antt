@@ -6,7 +6,7 @@ use Rattle.surveys.proofs.Batches.{none_tallied, whole_all}
 use Rattle.surveys.proofs.engine.Engine.count_first.Goals as goal
 
 pub returns-then-not-starts_with-clause-ok : goal.returns-then-not-starts_with-clause-ok
-returns-then-not-starts_with-clause-ok g c = none_tallied c.args.self.now.kind c.args.self.now.each c.args.bytes.now
+returns-then-not-starts_with-clause-ok g c = none_tallied c.args.self.now.kind c.args.self.now.reports c.args.bytes.now
     c.args.counted.now.ledger c.args.counted.now.bytes (g.W.Sink.written c.args.sink.now)
 
 pub returns-clause-ok : goal.returns-clause-ok

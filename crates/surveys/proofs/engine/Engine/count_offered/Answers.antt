@@ -26,10 +26,10 @@ returns-clause-ok g c =
     let now = c.count_batches.new.counted in
     let before = g.W.Sink.written c.args.sink.now in
     let after = g.W.Sink.written c.count_batches.new.sink in
-    subst (λ (r : List ℕ). IsTallied e.kind e.each block r counted.ledger counted.bytes before now.ledger now.bytes after)
-    (sym c.keep_rest.ensures)
-    (subst (λ (b : List ℕ). IsTallied e.kind e.each b (drop c.in_ok-length.length b) counted.ledger counted.bytes before
-    now.ledger now.bytes after) c.deref-2.ensures.value c.in_ok-length.ensures.ok)
+    subst (λ (r : List ℕ). IsTallied e.kind e.reports block r counted.ledger counted.bytes before now.ledger now.bytes
+    after) (sym c.keep_rest.ensures)
+    (subst (λ (b : List ℕ). IsTallied e.kind e.reports b (drop c.in_ok-length.length b) counted.ledger counted.bytes
+    before now.ledger now.bytes after) c.deref-2.ensures.value c.in_ok-length.ensures.ok)
 
 pub returns-in_err-length-clause-long : goal.returns-in_err-length-clause-long
 returns-in_err-length-clause-long g c =
