@@ -1,5 +1,5 @@
 -- What is left of a violation of any length, drawn and printed.
-use Rattle.std.proofs.Common.{◌≡◌, ◌⊎◌, inl, inr, ℕ, Some, false, List, arith, length}
+use Rattle.std.proofs.Common.{◌≡◌, ◌⊎◌, inl, inr, ℕ, Some, List, arith, length}
 use Rattle.std.proofs.lemmas.Bool.{cases_lt}
 use Rattle.recording.specs.declared.size.RecordingSize.TheVariants.{Short}
 use Rattle.recording.specs.Execution.{Execution, event_count}
@@ -27,7 +27,7 @@ use Rattle.answers.specs.Rendered.{IsLongPicture}
 -- a picture of what is left is that of a violation
 pub part_picture : (x : Execution) (names : Names) (a : LongAnswer) (ks : List ℕ) (y : Execution)
     → IsLongReduction x a ks y → (found : LongAnswer) → IsLongAnswer y found → (text : List ℕ)
-    → IsDrawing x names ks y found text → IsLongPicture false x names a text
+    → IsDrawing x names ks y found text → IsLongPicture x names a text
 part_picture x names (Order m) ks y r found is text drawn = absurd r.answer
 part_picture x names (Overlook l s) ks y r found is text drawn =
     record { numbers = ks; y = y; reduced = r; found = found; is = is; drawn = drawn }

@@ -1,5 +1,5 @@
 -- Renderings of a recording: its verdict in words or as a picture, or what is left of it.
-use Rattle.std.specs.Prelude.{◌≡◌, [], ℕ, Bool, true, false, Option, Some, None, List}
+use Rattle.std.specs.Prelude.{◌≡◌, [], ℕ, Bool, Option, Some, None, List, if◌then◌else◌}
 use Rattle.std.specs.List.{range_with_len}
 use Rattle.program.specs.declared.name.Name.{Name}
 use Rattle.program.specs.Parts.{Parts}
@@ -19,9 +19,13 @@ use Rattle.drawing.specs.Drawing.{IsDrawing}
 use Rattle.verdicts.specs.declared.printed.Answer.{Answer}
 use Rattle.verdicts.specs.VerdictAnswer.{outcome_of}
 use Rattle.answers.specs.declared.rendering.Rendering.{Rendering}
-use Rattle.answers.specs.declared.rendering.Rendering.TheVariants.{Words, Picture, Reduction}
+use Rattle.answers.specs.declared.rendering.Rendering.TheVariants.{Words, Picture, WholePicture, Reduction}
 use Rattle.answers.specs.LongReduced.{IsLongReducedAnswer}
 use Rattle.answers.specs.Reduced.{IsReducedAnswer}
+
+-- which picture is drawn: of all events, or of those alone that its verdict needs
+abbrev pub picture_form : Bool → Rendering
+picture_form all = if all then WholePicture else Picture
 
 -- the text is a picture of all events of a recording
 abbrev pub IsWholeDrawing : Execution → Names → LongAnswer → List ℕ → Type 0
@@ -36,12 +40,11 @@ pub record IsReducedDrawing (x : Execution) (names : Names) (v : Verdict) (text 
   pub found : IsVerdict y verdict
   pub drawn : IsDrawing x names numbers y (without_labels verdict) text
 
--- all events are drawn where they are asked for or the verdict is an order, else those that it needs
-abbrev pub IsPicture : Bool → Execution → Names → Verdict → List ℕ → Type 0
-IsPicture true x names v text = IsWholeDrawing x names (without_labels v) text
-IsPicture false x names (Ordered m) text = IsWholeDrawing x names (long.Order m) text
-IsPicture false x names (Overlook l s) text = IsReducedDrawing x names (Overlook l s) text
-IsPicture false x names (Cycle c) text = IsReducedDrawing x names (Cycle c) text
+-- all events are drawn where the verdict is an order, else those that it needs
+abbrev pub IsPicture : Execution → Names → Verdict → List ℕ → Type 0
+IsPicture x names (Ordered m) text = IsWholeDrawing x names (long.Order m) text
+IsPicture x names (Overlook l s) text = IsReducedDrawing x names (Overlook l s) text
+IsPicture x names (Cycle c) text = IsReducedDrawing x names (Cycle c) text
 
 -- the text is a picture of what is answered to the events y alone, which are those of x that its answer needs
 pub record IsPartDrawing (x : Execution) (names : Names) (a : LongAnswer) (text : List ℕ) : Type 0 where
@@ -53,11 +56,10 @@ pub record IsPartDrawing (x : Execution) (names : Names) (a : LongAnswer) (text 
   pub drawn : IsDrawing x names numbers y found text
 
 -- so it is of a recording of any length
-abbrev pub IsLongPicture : Bool → Execution → Names → LongAnswer → List ℕ → Type 0
-IsLongPicture true x names a text = IsWholeDrawing x names a text
-IsLongPicture false x names (long.Order m) text = IsWholeDrawing x names (long.Order m) text
-IsLongPicture false x names (long.Overlook l s) text = IsPartDrawing x names (long.Overlook l s) text
-IsLongPicture false x names (long.Cycle c) text = IsPartDrawing x names (long.Cycle c) text
+abbrev pub IsLongPicture : Execution → Names → LongAnswer → List ℕ → Type 0
+IsLongPicture x names (long.Order m) text = IsWholeDrawing x names (long.Order m) text
+IsLongPicture x names (long.Overlook l s) text = IsPartDrawing x names (long.Overlook l s) text
+IsLongPicture x names (long.Cycle c) text = IsPartDrawing x names (long.Cycle c) text
 
 -- the names that the program of a recording gives its addresses; none without a program
 abbrev pub addresses_of : Option Parts → List Name
@@ -79,7 +81,9 @@ pub record IsRendering (tells : Verdict → List ℕ → Type 0) (x : Execution)
 abbrev pub IsRenderedAnswer : Rendering → Execution → Option Parts → List (List ℕ) → Answer → Type 0
 IsRenderedAnswer Words x p labels answer =
     IsRendering (λ v. IsExplanation x (names_of p labels) (without_labels v)) x answer
-IsRenderedAnswer (Picture all) x p labels answer = IsRendering (IsPicture all x (names_of p labels)) x answer
+IsRenderedAnswer Picture x p labels answer = IsRendering (IsPicture x (names_of p labels)) x answer
+IsRenderedAnswer WholePicture x p labels answer =
+    IsRendering (λ v. IsWholeDrawing x (names_of p labels) (without_labels v)) x answer
 IsRenderedAnswer Reduction x p labels answer = IsReducedAnswer x p labels answer
 
 -- a text that says what is answered to a recording of any length, and the outcome
@@ -92,6 +96,6 @@ pub record IsLongRendering (tells : LongAnswer → List ℕ → Type 0) (x : Exe
 -- the rendering of a recording of any length, with the labels of its events
 abbrev pub IsLongRenderedAnswer : Rendering → Execution → List (List ℕ) → Answer → Type 0
 IsLongRenderedAnswer Words x labels answer = IsLongRendering (IsExplanation x (names_of None labels)) x answer
-IsLongRenderedAnswer (Picture all) x labels answer =
-    IsLongRendering (IsLongPicture all x (names_of None labels)) x answer
+IsLongRenderedAnswer Picture x labels answer = IsLongRendering (IsLongPicture x (names_of None labels)) x answer
+IsLongRenderedAnswer WholePicture x labels answer = IsLongRendering (IsWholeDrawing x (names_of None labels)) x answer
 IsLongRenderedAnswer Reduction x labels answer = IsLongReducedAnswer x labels answer

@@ -20,4 +20,4 @@ pub use outcome_answers::{
     unfinished_answer,
 };
 pub use reduced::{ViolationForm, cut_answer, line_answer, reduced_answer};
-pub use rendering::{Rendering, long_rendered_answer, rendered_answer};
+pub use rendering::{Rendering, long_rendered_answer, picture_form, rendered_answer};

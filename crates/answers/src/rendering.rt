@@ -7,6 +7,7 @@ ghost use Rattle.verdicts.specs.Verified.{Verifies};
 ghost use Rattle.long.specs.Answer.{IsLongAnswer, IsWitness, without_labels};
 ghost use Rattle.answers.specs.Rendered.{IsLongPicture, IsLongRenderedAnswer, IsPicture, IsRenderedAnswer};
 ghost use Rattle.answers.specs.Rendered.{IsLongRendering, IsRendering, IsWholeDrawing, addresses_of, names_of};
+ghost use Rattle.answers.specs.Rendered.{picture_form};
 ghost use Rattle.explanation.specs.Explanation.{IsExplanation};
 ghost use Rattle.program_events.specs.ProgramOf.{IsProgramOf};
 
@@ -30,14 +31,24 @@ use verdicts::{Answer, outcome_of};
 pub enum Rendering {
     /// Its verdict in words, as `explanation_text` has them.
     Words,
-    /// Its verdict as a directed graph, as `drawing_text` has it.
-    Picture {
-        /// Whether all events are drawn of an overlook or a cycle, or those alone that it needs, as
-        /// `reduce` keeps them.
-        all: bool,
-    },
+    /// Its verdict as a directed graph, as `drawing_text` has it: of an overlook or a cycle the events alone that it
+    /// needs, as `reduce` keeps them.
+    Picture,
+    /// The same of all events.
+    WholePicture,
     /// What is left of a violation, as `reduced_answer` has it.
     Reduction,
+}
+
+/// Which picture is drawn: of all events, or of those alone that an overlook or a cycle needs.
+pub fn picture_form(all: bool) -> Rendering
+    ensures { result ≡ picture_form all }
+{
+    if all {
+        Rendering::WholePicture
+    } else {
+        Rendering::Picture
+    }
 }
 
 /// A picture of all events of a recording.
@@ -58,10 +69,9 @@ fn whole_drawing(
     drawing_text(alloc, recording, names, &numbers, recording, answer)
 }
 
-/// A picture of all events, or of those alone that a violation needs.
+/// A picture of the events that a violation needs, or of all of an order.
 fn picture_text(
     alloc: Global,
-    all: bool,
     recording: &Recording,
     names: &Names,
     verdict: Verdict,
@@ -69,11 +79,8 @@ fn picture_text(
     requires short { IsShortRecording recording.now }
     requires found { IsVerdict recording.now verdict }
     requires verified { Verifies recording.now verdict }
-    ensures { IfOk result (λ text. IsPicture all recording.now names.now verdict text.items) }
+    ensures { IfOk result (λ text. IsPicture recording.now names.now verdict text.items) }
 {
-    if all {
-        return whole_drawing(alloc, recording, names, &without_labels(verdict));
-    }
     match reduce(alloc, recording, &verdict)? {
         Some(
             Reduced {
@@ -88,20 +95,16 @@ fn picture_text(
     }
 }
 
-/// A picture of all events of a recording of any length, or of those alone that a violation needs.
+/// A picture of the events of a recording of any length that a violation needs, or of all of an order.
 fn long_picture_text(
     alloc: Global,
-    all: bool,
     recording: &Recording,
     names: &Names,
     answer: &LongAnswer,
 ) -> Result<Vec<u8>, OutOfMemory>
     requires { IsLongAnswer recording.now answer.now }
-    ensures { IfOk result (λ text. IsLongPicture all recording.now names.now answer.now text.items) }
+    ensures { IfOk result (λ text. IsLongPicture recording.now names.now answer.now text.items) }
 {
-    if all {
-        return whole_drawing(alloc, recording, names, answer);
-    }
     match reduce_long(alloc, recording, answer)? {
         Some(reduced) => {
             let left = answered(alloc, &reduced.recording)?;
@@ -134,19 +137,29 @@ fn explained_answer(
     Ok(Answer { outcome, text })
 }
 
-/// The verdict on a recording as a picture, with these names.
-fn drawn_answer(
+/// The verdict on a recording as a picture of the events that it needs, with these names.
+fn drawn_answer(alloc: Global, recording: &Recording, names: &Names) -> Result<Answer, OutOfMemory>
+    requires { IsShortRecording recording.now }
+    ensures { IfOk result (IsRendering (IsPicture recording.now names.now) recording.now) }
+{
+    let verdict = judge_alone(alloc, recording)?;
+    let outcome = outcome_of(&verdict);
+    let text = picture_text(alloc, recording, names, verdict)?;
+    Ok(Answer { outcome, text })
+}
+
+/// The verdict on a recording as a picture of all its events, with these names.
+fn wholly_drawn_answer(
     alloc: Global,
-    all: bool,
     recording: &Recording,
     names: &Names,
 ) -> Result<Answer, OutOfMemory>
     requires { IsShortRecording recording.now }
-    ensures { IfOk result (IsRendering (IsPicture all recording.now names.now) recording.now) }
+    ensures { IfOk result (IsRendering (λ v. IsWholeDrawing recording.now names.now (without_labels v)) recording.now) }
 {
     let verdict = judge_alone(alloc, recording)?;
     let outcome = outcome_of(&verdict);
-    let text = picture_text(alloc, all, recording, names, verdict)?;
+    let text = whole_drawing(alloc, recording, names, &without_labels(verdict))?;
     Ok(Answer { outcome, text })
 }
 
@@ -164,17 +177,30 @@ fn explained_long_answer(
     Ok(Answer { outcome, text })
 }
 
-/// What is answered to a recording of any length as a picture, with these names.
+/// What is answered to a recording of any length as a picture of the events that it needs, with these names.
 fn drawn_long_answer(
     alloc: Global,
-    all: bool,
     recording: &Recording,
     names: &Names,
 ) -> Result<Answer, OutOfMemory>
-    ensures { IfOk result (IsLongRendering (IsLongPicture all recording.now names.now) recording.now) }
+    ensures { IfOk result (IsLongRendering (IsLongPicture recording.now names.now) recording.now) }
 {
     let answer = answered(alloc, recording)?;
-    let text = long_picture_text(alloc, all, recording, names, &answer)?;
+    let text = long_picture_text(alloc, recording, names, &answer)?;
+    let outcome = long_outcome(&answer);
+    Ok(Answer { outcome, text })
+}
+
+/// What is answered to a recording of any length as a picture of all its events, with these names.
+fn wholly_drawn_long_answer(
+    alloc: Global,
+    recording: &Recording,
+    names: &Names,
+) -> Result<Answer, OutOfMemory>
+    ensures { IfOk result (IsLongRendering (IsWholeDrawing recording.now names.now) recording.now) }
+{
+    let answer = answered(alloc, recording)?;
+    let text = whole_drawing(alloc, recording, names, &answer)?;
     let outcome = long_outcome(&answer);
     Ok(Answer { outcome, text })
 }
@@ -216,9 +242,13 @@ pub fn rendered_answer(
             let names = names_of(alloc, program, labels)?;
             explained_answer(alloc, recording, &names)
         }
-        Rendering::Picture { all } => {
+        Rendering::Picture => {
             let names = names_of(alloc, program, labels)?;
-            drawn_answer(alloc, all, recording, &names)
+            drawn_answer(alloc, recording, &names)
+        }
+        Rendering::WholePicture => {
+            let names = names_of(alloc, program, labels)?;
+            wholly_drawn_answer(alloc, recording, &names)
         }
         Rendering::Reduction => reduced_answer(alloc, recording, program, &labels),
     }
@@ -240,9 +270,13 @@ pub fn long_rendered_answer(
             let names = names_of(alloc, None, labels)?;
             explained_long_answer(alloc, recording, &names)
         }
-        Rendering::Picture { all } => {
+        Rendering::Picture => {
             let names = names_of(alloc, None, labels)?;
-            drawn_long_answer(alloc, all, recording, &names)
+            drawn_long_answer(alloc, recording, &names)
+        }
+        Rendering::WholePicture => {
+            let names = names_of(alloc, None, labels)?;
+            wholly_drawn_long_answer(alloc, recording, &names)
         }
         Rendering::Reduction => long_reduced_answer(alloc, recording, &labels),
     }

@@ -26,7 +26,7 @@ use crate::survey_command::{each_command, survey_command};
 use crate::trials_command::trials_command;
 use crate::verify_command::verify_command;
 use crate::without_options::without_options;
-use answers::Rendering;
+use answers::{Rendering, picture_form};
 use command_line::words::options;
 use command_line::{Options, SurveyOptions};
 use devices::{Host, Sink};
@@ -58,8 +58,7 @@ fn answer_to<R: Threads + Wait + Sync, H: Host>(
         Options::Replay(replay) => replay_command(alloc, replay, host),
         Options::Explain(explain) => render_command(alloc, Rendering::Words, explain, host),
         Options::Draw(draw) => {
-            let rendering = Rendering::Picture { all: draw.all };
-            render_command(alloc, rendering, &draw.recording, host)
+            render_command(alloc, picture_form(draw.all), &draw.recording, host)
         }
         Options::Reduce(reduce) => render_command(alloc, Rendering::Reduction, reduce, host),
         Options::Verify(verify) => verify_command(rt, alloc, verify, host),

@@ -3,7 +3,8 @@
 
 ghost use Rattle.std.specs.Prelude.{◌≡◌, ◌≢◌, ◌≤◌};
 ghost use Rattle.verdicts.specs.declared.outcome.Outcome.TheVariants.{Done, Ordered, Refused, Unfinished, Violation};
-ghost use Rattle.answers.specs.declared.rendering.Rendering.TheVariants.{Words, Picture, Reduction};
+ghost use Rattle.answers.specs.declared.rendering.Rendering.TheVariants.{Words, Reduction};
+ghost use Rattle.answers.specs.Rendered.{picture_form};
 ghost use Rattle.tsotest_library.specs.Given.{AreCodeNumbers, AreCodesAnswered, IsAnswered, IsNothing, IsWrittenWhole};
 ghost use Rattle.text_judge.specs.Answer.{IsLongAnswerOf};
 ghost use Rattle.tsotest_library.specs.Judged.{IsJudgedOf};
@@ -21,7 +22,7 @@ mod listing;
 mod rendering;
 mod states;
 
-use answers::Rendering;
+use answers::{Rendering, picture_form};
 use common::VERSION_LINE;
 use std::alloc::Global;
 use surveys::codes_of_lines;
@@ -106,19 +107,14 @@ pub extern "C" fn tsotest_draw(
 ) -> u8
     ensures status { result ≤ 3 }
     ensures allowed { result ≡ 0 →
-        IsAnswered (IsRenderedOf (Picture all) recording.now program.now) Ordered out.old out.new len.new }
+        IsAnswered (IsRenderedOf (picture_form all) recording.now program.now) Ordered out.old out.new len.new }
     ensures no_memory { result ≡ 1 → IsNothing out.old out.new len.new }
     ensures violation { result ≡ 2 →
-        IsAnswered (IsRenderedOf (Picture all) recording.now program.now) Violation out.old out.new len.new }
+        IsAnswered (IsRenderedOf (picture_form all) recording.now program.now) Violation out.old out.new len.new }
     ensures refused { result ≡ 3 →
-        IsAnswered (IsRenderedOf (Picture all) recording.now program.now) Refused out.old out.new len.new }
+        IsAnswered (IsRenderedOf (picture_form all) recording.now program.now) Refused out.old out.new len.new }
 {
-    let answer = rendering::rendered_answer_of(
-        alloc,
-        Rendering::Picture { all },
-        recording,
-        program,
-    );
+    let answer = rendering::rendered_answer_of(alloc, picture_form(all), recording, program);
     buffers::put_answer(answer, out, len)
 }
 

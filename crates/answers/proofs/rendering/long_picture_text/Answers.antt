@@ -1,6 +1,5 @@
-use Rattle.std.proofs.Common.{ℕ, Bool, List, subst, sym}
+use Rattle.std.proofs.Common.{ℕ, List, subst}
 use Rattle.drawing.specs.Drawing.{IsDrawing}
-use Rattle.answers.specs.Rendered.{IsLongPicture}
 use Rattle.answers.proofs.LongParts.{part_picture}
 use Rattle.answers.proofs.rendering.long_picture_text.Goals as goal
 
@@ -16,5 +15,4 @@ returns-in_ok-text-in-Some c =
     let reduction = rw c.in-Some.is at c.in_ok-reduced.ensures.reduction in
     let drawn = subst (λ (l : List ℕ). IsDrawing x names l y left text) c.deref.ensures.value
     c.in_ok-text-in-Some.ensures in
-    subst (λ (b : Bool). IsLongPicture b x names answer text) (sym c.if-all.false)
-    (part_picture x names answer ks y reduction left c.in_ok-left-in-Some.ensures text drawn)
+    part_picture x names answer ks y reduction left c.in_ok-left-in-Some.ensures text drawn
