@@ -118,19 +118,42 @@ fn is_needed(values: &Values, row: &Row, core: usize, write: Waiting, value: u32
     false
 }
 
-/// Whether a move is better made later: what it writes is wanted by none, and overwrites what is still needed.
-fn is_late(values: &Values, row: &Row, core: usize, write: Waiting) -> bool {
-    let old = value_at(row.memory(), write.address as usize);
-    !is_wanted(values, row, write.address, write.value) && is_needed(values, row, core, write, old)
+/// When a move is tried.
+#[derive(Clone, Copy, PartialEq, Eq)]
+enum Rank {
+    /// Before the late ones.
+    Soon,
+    /// After the others.
+    Late,
 }
 
-/// A move with its rank: whether it is better made later.
+impl Rank {
+    /// The other one.
+    fn other(self) -> Rank {
+        match self {
+            Rank::Soon => Rank::Late,
+            Rank::Late => Rank::Soon,
+        }
+    }
+}
+
+/// The rank of a move: late where what it writes is wanted by none, and overwrites what is still needed.
+fn rank_of(values: &Values, row: &Row, core: usize, write: Waiting) -> Rank {
+    let old = value_at(row.memory(), write.address as usize);
+    if !is_wanted(values, row, write.address, write.value)
+        && is_needed(values, row, core, write, old)
+    {
+        Rank::Late
+    } else {
+        Rank::Soon
+    }
+}
+
+/// A move with its rank.
 #[derive(Clone, Copy)]
 struct Choice {
-    /// The move.
     turn: Turn,
-    /// Whether others come first.
-    late: bool,
+    rank: Rank,
 }
 
 /// Adds a move with its rank, unless it can't be made or comes too early.
@@ -155,11 +178,11 @@ fn add(
     if is_early(values, pairs, row, turn.step, turn.core) {
         return Ok(());
     }
-    let mut late = is_late(values, row, turn.core, write);
+    let mut rank = rank_of(values, row, turn.core, write);
     if !mixer.is_plain() && mixer.next() >> 60 == 0 {
-        late = !late;
+        rank = rank.other();
     }
-    found.push(Choice { turn, late })?;
+    found.push(Choice { turn, rank })?;
     Ok(())
 }
 
@@ -197,16 +220,16 @@ fn take(
     found: &[Choice],
     from: usize,
     to: usize,
-    late: bool,
+    rank: Rank,
     moves: &mut Vec<Turn>,
 ) -> Result<(), OutOfMemory>
     requires { to ≤ length found.now }
     ensures more { OnOk result ((t : Turn) → Contains moves.old.items t → Contains moves.new.items t) }
     ensures taken { OnOk result ((i : ℕ) (x : Choice) → from ≤ i → i < to → slice_get found.now i ≡ Some x
-        → x.late ≡ late → Contains moves.new.items x.turn) }
+        → x.rank ≡ rank → Contains moves.new.items x.turn) }
 {
     for i in from..to {
-        if found[i].late == late {
+        if found[i].rank == rank {
             moves.push(found[i].turn)?;
         }
     }
@@ -220,10 +243,10 @@ fn ordered(alloc: Global, found: &[Choice], first: usize) -> Result<Vec<Turn>, O
 {
     let count = found.len();
     let mut moves = Vec::with_capacity(alloc, count)?;
-    take(found, first, count, false, &mut moves)?;
-    take(found, 0, first, false, &mut moves)?;
-    take(found, first, count, true, &mut moves)?;
-    take(found, 0, first, true, &mut moves)?;
+    take(found, first, count, Rank::Soon, &mut moves)?;
+    take(found, 0, first, Rank::Soon, &mut moves)?;
+    take(found, first, count, Rank::Late, &mut moves)?;
+    take(found, 0, first, Rank::Late, &mut moves)?;
     Ok(moves)
 }
 

@@ -10,7 +10,7 @@ use Rattle.completion.proofs.ranking.add.Goals as goal
 pub returns-clause-more : goal.returns-clause-more
 returns-clause-more c t =
     let old : List Choice = c.args.found.now.items in
-    let choice : Choice = record { turn = c.args.turn; late = c.if-not-is_plain.late } in
+    let choice : Choice = record { turn = c.args.turn; rank = c.if-not-is_plain.rank } in
     let same : map (λ (x : Choice). x.turn) c.push.new.self.items ≡ map (λ (x : Choice). x.turn) old ++ c.args.turn ∷ [] =
     ap (map (λ (x : Choice). x.turn)) c.in_ok-push.ensures.items ∙ map-append (λ (x : Choice). x.turn) old (choice ∷ []) in
     taken_more c.args.values.now c.args.row.now (map (λ (x : Choice). x.turn) old)

@@ -1,28 +1,23 @@
-use Rattle.std.proofs.Common.{◌≡◌, ◌<◌, ◌≤◌, ◌+◌, ◌++◌, ◌∷◌, [], inl, inr, ℕ, Bool, true, false, List, Some, slice_get}
+use Rattle.std.proofs.Common.{◌≡◌, ◌<◌, ◌≤◌, ◌+◌, ◌++◌, ◌∷◌, [], inl, inr, ℕ, false, List, Some, slice_get}
 use Rattle.std.proofs.Common.{get_or}
 use Rattle.std.proofs.Common.{arith, ap, sym, subst, ◌∙◌}
-use Rattle.std.proofs.Math.Bool.{beq}
 use Rattle.std.specs.List.{Contains}
+use denote.Enum.Bare.{sameb, same_false}
 use Rattle.std.proofs.lemmas.Bool.{cases_eq}
 use Rattle.std.proofs.lemmas.Option.{get_or_from_slice_get}
 use Rattle.std.proofs.lemmas.List.Elements.{Contains-append_left, Contains-push}
 use Rattle.completion.specs.declared.moves.Turn.{Turn}
 use Rattle.completion.specs.declared.ranking.Choice.{Choice}
+use Rattle.completion.specs.contracts.ranking.Rank.{the_type}
+use Rattle.completion.specs.declared.ranking.Rank.{Rank}
 use Rattle.completion.proofs.ranking.take.Goals as goal
-use Rattle.completion.proofs.ranking.take.Goals.{then-found-i+in_ok-push, else-found-i}
+use Rattle.completion.proofs.ranking.take.Goals.{then-eq+in_ok-push, else-eq}
 
--- what is not found to be the same is not
-apart : (a b : Bool) → beq a b ≡ false → a ≡ b → 1 ≤ 0
-apart true true h is = absurd cc
-apart true false h is = absurd cc
-apart false true h is = absurd cc
-apart false false h is = absurd cc
-
-module _ (found : List Choice) (d : Choice) (from i : ℕ) (late : Bool) (old new : List Turn)
-    (before : (j : ℕ) (x : Choice) → from ≤ j → j < i → slice_get found j ≡ Some x → x.late ≡ late → Contains old x.turn)
+module _ (found : List Choice) (d : Choice) (from i : ℕ) (rank : Rank) (old new : List Turn)
+    (before : (j : ℕ) (x : Choice) → from ≤ j → j < i → slice_get found j ≡ Some x → x.rank ≡ rank → Contains old x.turn)
   where
     taken : new ≡ old ++ (get_or found i d).turn ∷ [] → (j : ℕ) (x : Choice) → from ≤ j → j < i + 1
-        → slice_get found j ≡ Some x → x.late ≡ late → Contains new x.turn
+        → slice_get found j ≡ Some x → x.rank ≡ rank → Contains new x.turn
     taken is j x low high at same = subst (λ (l : List Turn). Contains l x.turn) (sym is) (elim (cases_eq j i) [
       | inr other ↦ Contains-append_left old ((get_or found i d).turn ∷ []) x.turn
           (before j x low (omega (arith, high, other)) at same)
@@ -33,34 +28,34 @@ module _ (found : List Choice) (d : Choice) (from i : ℕ) (late : Bool) (old ne
           (Contains-push old x.turn)
     ])
 
-    left : new ≡ old → beq (get_or found i d).late late ≡ false → (j : ℕ) (x : Choice) → from ≤ j → j < i + 1
-        → slice_get found j ≡ Some x → x.late ≡ late → Contains new x.turn
+    left : new ≡ old → sameb the_type (get_or found i d).rank rank ≡ false → (j : ℕ) (x : Choice) → from ≤ j → j < i + 1
+        → slice_get found j ≡ Some x → x.rank ≡ rank → Contains new x.turn
     left is other j x low high at same = subst (λ (l : List Turn). Contains l x.turn) (sym is) (elim (cases_eq j i) [
       | inr before_it ↦ before j x low (omega (arith, high, before_it)) at same
       | inl one ↦
           let here : get_or found i d ≡ x =
           get_or_from_slice_get found i x d (ap (slice_get found) (sym one) ∙ at) in
-          absurd (omega (arith, apart (get_or found i d).late late other (ap (λ (z : Choice). z.late) here ∙ same)))
+          absurd (same_false the_type (get_or found i d).rank rank other (ap (λ (z : Choice). z.rank) here ∙ same))
     ])
 
 pub loop-i-preserved : goal.loop-i-preserved
 loop-i-preserved c =
     let old : List Turn = c.loop-i.moves.items in
-    let new : List Turn = c.if-found-i.moves.items in
-    elim c.if-found-i.branch [
-      | then-found-i+in_ok-push w ↦
+    let new : List Turn = c.if-eq.moves.items in
+    elim c.if-eq.branch [
+      | then-eq+in_ok-push w ↦
           let is = ap (λ v. v.items) w.moves-is ∙ w.in_ok-push.ensures.items in
           record {
             more = λ t there. subst (λ (l : List Turn). Contains l t) (sym is)
                 (Contains-append_left old _ t (c.loop-i.invariant.more t there));
-            taken = taken c.args.found.now _ c.args.from c.loop-i.i c.args.late old new c.loop-i.invariant.taken is;
+            taken = taken c.args.found.now _ c.args.from c.loop-i.i c.args.rank old new c.loop-i.invariant.taken is;
           }
-      | else-found-i w ↦
+      | else-eq w ↦
           let is = ap (λ v. v.items) w.moves-is in
           record {
             more = λ t there. subst (λ (l : List Turn). Contains l t) (sym is) (c.loop-i.invariant.more t there);
-            taken = left c.args.found.now _ c.args.from c.loop-i.i c.args.late old new c.loop-i.invariant.taken is
-                w.if-found-i.false;
+            taken = left c.args.found.now _ c.args.from c.loop-i.i c.args.rank old new c.loop-i.invariant.taken is
+                (sym c.eq.ensures ∙ w.if-eq.false);
           }
     ]
 

@@ -7,6 +7,6 @@ use Rattle.completion.proofs.ranking.take.Given as goal
 abbrev pub invariant-loop-i : goal.invariant-loop-i
 invariant-loop-i l = record {
   more : (t : Turn) → Contains l.fn.moves.items t → Contains l.moves.items t;
-  taken : (i : ℕ) (x : Choice) → l.from ≤ i → i < l.i → slice_get l.found i ≡ Some x → x.late ≡ l.late
+  taken : (i : ℕ) (x : Choice) → l.from ≤ i → i < l.i → slice_get l.found i ≡ Some x → x.rank ≡ l.rank
       → Contains l.moves.items x.turn;
 }
