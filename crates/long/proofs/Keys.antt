@@ -1,8 +1,8 @@
--- The keys of events in a heap.
+-- The keys of events.
 use Rattle.std.proofs.Common.{◌≡◌, ◌≢◌, ◌<◌, ◌≤◌, ◌+◌, ◌^◌, ◌==◌, inl, inr, ℕ, cond, List, [], ◌∷◌, get_or, set}
 use Rattle.std.proofs.Common.{length, arith, refl, sym, ap, subst, ◌∙◌, length-set, get_or-set_same, get_or-set_other}
 use Rattle.std.specs.Prelude.{IsPermutation}
-use Rattle.std.specs.BinaryHeap.{IsHeap, IsUpperBound}
+use Rattle.std.specs.BinaryHeap.{IsUpperBound}
 use Rattle.std.specs.List.{sum_by}
 use Rattle.std.specs.Ordering.{nat_cmp}
 use Rattle.std.proofs.lemmas.Bool.{cases_eq, cases_lt, eq-eqb, ne_eqb}
@@ -28,6 +28,13 @@ times_sum (x ∷ xs) e = ap (λ (k : ℕ). cond (x == e) 1 0 + k) (times_sum xs 
 -- so each stands as often in another order
 pub times_permuted : (xs ys : List ℕ) (e : ℕ) → IsPermutation xs ys → times ys e ≡ times xs e
 times_permuted xs ys e moved = times_sum ys e ∙ sum_by-IsPermutation (is_one e) xs ys moved ∙ sym (times_sum xs e)
+
+-- no number is above one that none is greater than
+pub at_most_greatest : (xs : List ℕ) (most k : ℕ) → IsUpperBound nat_cmp most xs → 0 < times xs k → k ≤ most
+at_most_greatest xs most k greatest some =
+    let at : place xs k < length xs = place_in xs k some in
+    let low : get_or xs (place xs k) 0 ≤ most = le_from_greatest most xs greatest (place xs k) 0 at in
+    omega (arith, low, at_place xs k at)
 
 -- a count is 1, or it is not
 pub one_there : (n : ℕ) → n ≡ 1 → one_if (n == 1) ≡ 1
@@ -56,8 +63,8 @@ counted_event counts e some = elim (cases_lt e (length counts)) [
 ]
 
 -- the greatest key is that of the first event whose count is 1
-pub first_ready : (counts keys : List ℕ) → IsReady counts keys → (key : ℕ) → key < 2 ^ 32 → IsUpperBound nat_cmp key keys
-    → 0 < times keys key
+pub first_ready : (counts keys : List ℕ) → IsReady counts keys → (key : ℕ) → key < 2 ^ 32
+    → ((k : ℕ) → 0 < times keys k → k ≤ key) → 0 < times keys key
     → (key_of key < length counts) × (get_or counts (key_of key) 0 ≡ 1)
     × ((e : ℕ) → e < length counts → get_or counts e 0 ≡ 1 → key_of key ≤ e)
 first_ready counts keys ready key low greatest some =
@@ -69,27 +76,23 @@ first_ready counts keys ready key low greatest some =
       λ e within is.
           let stands : times keys (key_of e) ≡ 1 =
           ready.each e (omega (arith, within, ready.few)) ∙ one_there (get_or counts e 0) is in
-          let at : place keys (key_of e) < length keys = place_in keys (key_of e) (omega (arith, stands)) in
-          let most : get_or keys (place keys (key_of e)) 0 ≤ key =
-          le_from_greatest key keys greatest (place keys (key_of e)) 0 at in
-          omega (arith, most, at_place keys (key_of e) at, within, ready.few, low),
+          omega (arith, greatest (key_of e) (omega (arith, stands)), within, ready.few, low),
     )
 
 -- without a key no event has the count 1
-pub none_ready : (counts keys : List ℕ) → IsReady counts keys → length keys ≡ 0 → (e : ℕ) → e < length counts
+pub none_ready : (counts keys : List ℕ) → IsReady counts keys → keys ≡ [] → (e : ℕ) → e < length counts
     → get_or counts e 0 ≢ 1
 none_ready counts keys ready none e within is =
     let stands : times keys (key_of e) ≡ 1 =
     ready.each e (omega (arith, within, ready.few)) ∙ one_there (get_or counts e 0) is in
-    omega (arith, none, place_in keys (key_of e) (omega (arith, stands)))
+    omega (arith, stands, ap (λ (ks : List ℕ). times ks (key_of e)) none, times_nil (key_of e))
 
 -- what is taken is ready no longer
 pub ready_taken : (counts keys rest : List ℕ) → IsReady counts keys → (key : ℕ) → key < 2 ^ 32
-    → IsPermutation keys (key ∷ rest) → IsHeap nat_cmp rest → 0 < times keys key
+    → ((k : ℕ) → times keys k ≡ times (key ∷ rest) k) → 0 < times keys key
     → IsReady (set counts (key_of key) 0) rest
-ready_taken counts keys rest ready key low moved heap some = record {
+ready_taken counts keys rest ready key low moved some = record {
   few = omega (arith, ready.few, length-set counts (key_of key) 0);
-  heap = heap;
   each = λ e small. elim (cases_eq e (key_of key)) [
     | inl here ↦
         let own : key_of e ≡ key = omega (arith, here, low) in
@@ -98,7 +101,7 @@ ready_taken counts keys rest ready key low moved heap some = record {
         let left : times rest (key_of e) ≡ 0 = omega (
           arith,
           stood,
-          times_permuted keys (key ∷ rest) (key_of e) moved,
+          moved (key_of e),
           times_here rest key (key_of e) (sym own),
         ) in
         let at : e < length counts = counted_event counts e (omega (
@@ -118,7 +121,7 @@ ready_taken counts keys rest ready key low moved heap some = record {
         omega (
           arith,
           ready.each e small,
-          times_permuted keys (key ∷ rest) (key_of e) moved,
+          moved (key_of e),
           times_there rest key (key_of e) other,
         ) ∙ ap (λ (k : ℕ). one_if (k == 1)) (sym same)
   ];
@@ -129,7 +132,6 @@ pub ready_lower : (counts keys : List ℕ) → IsReady counts keys → (v left :
     → get_or counts v 0 ≢ 1 → left ≢ 1 → IsReady (set counts v left) keys
 ready_lower counts keys ready v left low was now = record {
   few = omega (arith, ready.few, length-set counts v left);
-  heap = ready.heap;
   each = λ e small. elim (cases_eq e v) [
     | inl here ↦
         ready.each e small
@@ -148,14 +150,13 @@ ready_lower counts keys ready v left low was now = record {
 
 -- and down to 1
 pub ready_more : (counts keys more : List ℕ) → IsReady counts keys → (v : ℕ) → v < length counts
-    → get_or counts v 0 ≢ 1 → IsPermutation (key_of v ∷ keys) more → IsHeap nat_cmp more → IsReady (set counts v 1) more
-ready_more counts keys more ready v low was moved heap = record {
+    → get_or counts v 0 ≢ 1 → ((k : ℕ) → times more k ≡ times (key_of v ∷ keys) k) → IsReady (set counts v 1) more
+ready_more counts keys more ready v low was moved = record {
   few = omega (arith, ready.few, length-set counts v 1);
-  heap = heap;
   each = λ e small. elim (cases_eq e v) [
     | inl here ↦ omega (
       arith,
-      times_permuted (key_of v ∷ keys) more (key_of e) moved,
+      moved (key_of e),
       times_here keys (key_of v) (key_of e) (ap key_of (sym here)),
       ready.each e small,
       one_gone (get_or counts e 0) (subst (λ (k : ℕ). get_or counts k 0 ≢ 1) (sym here) was),
@@ -164,7 +165,7 @@ ready_more counts keys more ready v low was moved heap = record {
     )
     | inr apart ↦ omega (
       arith,
-      times_permuted (key_of v ∷ keys) more (key_of e) moved,
+      moved (key_of e),
       times_there keys (key_of v) (key_of e)
           (keys_differ v e (omega (arith, low, ready.few)) small (λ same. apart (sym same))),
       ready.each e small,
@@ -175,14 +176,12 @@ ready_more counts keys more ready v low was moved heap = record {
 
 -- the keys of the events below n whose count is 1
 pub record AreReadyBelow (n : ℕ) (counts keys : List ℕ) : Type 0 where
-  pub heap : IsHeap nat_cmp keys
   pub each : (e : ℕ) → e < n → times keys (key_of e) ≡ one_if (get_or counts e 0 == 1)
   pub others : (e : ℕ) → n ≤ e → e < 2 ^ 32 → times keys (key_of e) ≡ 0
 
 -- none at first
-pub below_none : (counts keys : List ℕ) → keys ≡ [] → IsHeap nat_cmp keys → AreReadyBelow 0 counts keys
-below_none counts keys none heap = record {
-  heap = heap;
+pub below_none : (counts keys : List ℕ) → keys ≡ [] → AreReadyBelow 0 counts keys
+below_none counts keys none = record {
   each = λ e low. absurd (omega (arith, low));
   others = λ e past small. ap (λ (ks : List ℕ). times ks (key_of e)) none ∙ times_nil (key_of e);
 }
@@ -191,7 +190,6 @@ below_none counts keys none heap = record {
 pub below_still : (n : ℕ) (counts keys : List ℕ) → n < 2 ^ 32 → AreReadyBelow n counts keys → get_or counts n 0 ≢ 1
     → AreReadyBelow (n + 1) counts keys
 below_still n counts keys small are other = record {
-  heap = are.heap;
   each = λ e low. elim (cases_eq e n) [
     | inl here ↦ are.others e (omega (arith, here)) (omega (arith, here, small))
         ∙ sym (one_gone (get_or counts e 0) (subst (λ (k : ℕ). get_or counts k 0 ≢ 1) (sym here) other))
@@ -202,20 +200,19 @@ below_still n counts keys small are other = record {
 
 -- and one whose count is 1
 pub below_more : (n : ℕ) (counts keys more : List ℕ) → n < 2 ^ 32 → AreReadyBelow n counts keys → get_or counts n 0 ≡ 1
-    → IsPermutation (key_of n ∷ keys) more → IsHeap nat_cmp more → AreReadyBelow (n + 1) counts more
-below_more n counts keys more small are one moved heap = record {
-  heap = heap;
+    → ((k : ℕ) → times more k ≡ times (key_of n ∷ keys) k) → AreReadyBelow (n + 1) counts more
+below_more n counts keys more small are one moved = record {
   each = λ e low. elim (cases_eq e n) [
     | inl here ↦ omega (
       arith,
-      times_permuted (key_of n ∷ keys) more (key_of e) moved,
+      moved (key_of e),
       times_here keys (key_of n) (key_of e) (ap key_of (sym here)),
       are.others e (omega (arith, here)) (omega (arith, here, small)),
       one_there (get_or counts e 0) (ap (λ (k : ℕ). get_or counts k 0) here ∙ one),
     )
     | inr apart ↦ omega (
       arith,
-      times_permuted (key_of n ∷ keys) more (key_of e) moved,
+      moved (key_of e),
       times_there keys (key_of n) (key_of e)
           (keys_differ n e small (omega (arith, low, small)) (λ same. apart (sym same))),
       are.each e (omega (arith, low, apart)),
@@ -223,7 +220,7 @@ below_more n counts keys more small are one moved heap = record {
   ];
   others = λ e past high. omega (
     arith,
-    times_permuted (key_of n ∷ keys) more (key_of e) moved,
+    moved (key_of e),
     times_there keys (key_of n) (key_of e) (keys_differ n e small high (λ same. omega (arith, same, past))),
     are.others e (omega (arith, past)) high,
   );
@@ -234,7 +231,6 @@ pub below_all : (n : ℕ) (counts keys : List ℕ) → n ≡ length counts → l
     → AreReadyBelow n counts keys → IsReady counts keys
 below_all n counts keys all few are = record {
   few = few;
-  heap = are.heap;
   each = λ e small. elim (cases_lt e n) [
     | inl low ↦ are.each e low
     | inr past ↦ are.others e past small

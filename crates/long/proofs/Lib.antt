@@ -5,6 +5,7 @@ pub mod Newer
 pub mod Cuts
 pub mod Closing
 pub mod Keys
+pub mod Queues
 pub mod Back
 pub mod Sorts
 pub mod Befores

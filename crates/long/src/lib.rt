@@ -9,6 +9,7 @@ mod linking;
 mod newest;
 mod open;
 mod pairs;
+mod queue;
 mod sorting;
 mod text;
 mod waiting;

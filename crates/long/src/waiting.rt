@@ -4,9 +4,9 @@ ghost use Rattle.std.specs.Prelude.{◌≡◌, ◌<◌, ◌^◌};
 ghost use Rattle.long.specs.Ready.{key_of};
 
 use crate::pairs::Pairs;
+use crate::queue::KeyQueue;
 use common::{EventId, OutOfMemory};
 use std::alloc::Global;
-use std::collections::BinaryHeap;
 use std::marker::Model;
 
 /// The key of an event: the less the event, the greater its key.
@@ -21,37 +21,35 @@ fn key_of(event: EventId) -> u32
 #[derive(Drop)]
 pub(crate) struct Waiting {
     counts: Vec<u32>,
-    ready: BinaryHeap<u32>,
+    ready: KeyQueue,
 }
 
 impl Model for Waiting {
     ghost use Rattle.std.specs.Prelude.{ℕ, List};
-    ghost use Rattle.std.specs.BinaryHeap.{heap_items};
     ghost use Rattle.long.specs.Ready.{IsReady};
 
     ghost Value = { List ℕ };
 
     ghost view = { λ w. w.counts.items };
 
-    ghost invariant = { λ w. IsReady w.counts.items (heap_items w.ready) };
+    ghost invariant = { λ w. IsReady w.counts.items w.ready };
 }
 
 impl Waiting {
     ghost use Rattle.std.specs.Prelude.{◌≡◌, ◌≢◌, ◌≤◌, ◌<◌, ◌+◌, ◌-◌, ◌^◌, ℕ, IfOk, OnOk, MatchOption, length};
     ghost use Rattle.std.specs.Prelude.{slice_index, slice_set};
-    ghost use Rattle.std.specs.BinaryHeap.{heap_items};
     ghost use Rattle.long.specs.Rows.{times_kept};
     ghost use Rattle.long.specs.Ready.{IsReady};
 
     /// The keys of the events whose count is 1.
-    fn ready_of(alloc: Global, counts: &[u32]) -> Result<BinaryHeap<u32>, OutOfMemory>
+    fn ready_of(alloc: Global, counts: &[u32]) -> Result<KeyQueue, OutOfMemory>
         requires { length counts.now < 2 ^ 32 }
-        ensures { IfOk result (λ ready. IsReady counts.now (heap_items ready)) }
+        ensures { IfOk result (IsReady counts.now) }
     {
-        let mut ready = BinaryHeap::new(alloc);
+        let mut ready = KeyQueue::new(alloc);
         for event in 0..counts.len() {
             if counts[event] == 1 {
-                ready.push(key_of(event as EventId))?;
+                ready.put(key_of(event as EventId))?;
             }
         }
         Ok(ready)
@@ -81,7 +79,7 @@ impl Waiting {
             × ((e : ℕ) → e < length self.old → slice_index self.old e ≡ 1 → v ≤ e)) }
         ensures counts { MatchOption result (self.new ≡ self.old) (λ v. self.new ≡ slice_set self.old v 0) }
     {
-        let key = self.ready.pop()?;
+        let key = self.ready.take()?;
         let event = key_of(key);
         self.counts[event as usize] = 0;
         Some(event)
@@ -95,7 +93,7 @@ impl Waiting {
     {
         let left = self.counts[event as usize] - 1;
         if left == 1 {
-            self.ready.push(key_of(event))?;
+            self.ready.put(key_of(event))?;
         }
         self.counts[event as usize] = left;
         Ok(())
