@@ -3,8 +3,11 @@
 use crate::bytes::{Failed, Sink};
 use std::alloc::Global;
 
-/// A sink, and the text of the first `push` that did not fail: whole, also where only a part of it was taken, and empty
-/// where there is no memory.
+/// How many bytes of a text are noted.
+const NOTED: usize = 65_536;
+
+/// A sink, and the first 65,536 bytes of the text of the first `push` that did not fail, also where only a part of it
+/// was taken; no byte where there is no memory.
 #[derive(Drop)]
 pub struct Noted<T> {
     inner: T,
@@ -24,7 +27,7 @@ impl<T> Noted<T> {
         }
     }
 
-    /// The text that it was given first.
+    /// How the text begins that it was given first.
     pub fn first(&self) -> &[u8] {
         &self.first
     }
@@ -38,7 +41,7 @@ impl<T: Sink> Sink for Noted<T> {
     fn push(&mut self, text: &[u8]) -> Result<usize, Failed> {
         let n = self.inner.push(text)?;
         if self.first.is_empty() {
-            let _ = self.first.extend_from_slice(text);
+            let _ = self.first.extend_from_slice(&text[..text.len().min(NOTED)]);
         }
         Ok(n)
     }

@@ -11,11 +11,17 @@ use recording::RecordingSize;
 use std::alloc::{AllocError, Global};
 use texts::Cursor;
 
-/// For how many items a list has room at least.
+/// For how many items the first list has room at first.
 const ROOM: usize = 32;
 
 /// For how many lists there is room at first.
 const LISTS: usize = 16;
+
+/// For how many items a list has room at first that comes after one of this many: a few more, since lists of one
+/// recording are often about as long, and one that outgrows its room takes twice as much.
+fn room_after(len: usize) -> usize {
+    len.saturating_add(len / 8 + 4)
+}
 
 /// A list, which has room for this many items at first.
 #[inline(never)]
@@ -63,7 +69,7 @@ pub(crate) fn take_list<K: Kind>(
     take_list_in::<K>(alloc, rest, size, ROOM)
 }
 
-/// A list of lists, each of which has room at first for as many items as the one before it has.
+/// A list of lists, each of which has room at first for a few items more than the one before it has.
 pub(crate) fn take_lists<K: Kind>(
     alloc: Global,
     rest: &mut Cursor<'_>,
@@ -86,7 +92,7 @@ pub(crate) fn take_lists<K: Kind>(
         let Some(list) = take_list_in::<K>(alloc, rest, size, room)? else {
             return Ok(None);
         };
-        room = list.len().max(ROOM);
+        room = room_after(list.len());
         K::hold_list(&mut found, list, size)?;
         if !take_sign(rest, b',') {
             if take_sign(rest, b']') {
