@@ -61,6 +61,19 @@ impl<'p> Numbered<'p> {
         count
     }
 
+    /// Whether each event that writes is marked. No step of its loop depends on what an event does.
+    fn are_all_marked(&self, marks: &[bool]) -> bool
+        requires few_events { event_count self.now ≤ MAX_RECORDED_EVENTS }
+        requires size { length marks.now ≡ event_count self.now }
+        ensures { IsTrue result → (e a : ℕ) → Writes self.now e a → IsTrue (is_marked marks.now e) }
+    {
+        let mut all = true;
+        for number in 0..self.len() as EventId {
+            all = all & (marks[number as usize] | !self.event(number).writes());
+        }
+        all
+    }
+
     /// The address that an unmarked event writes, where it is below a count; else the count.
     fn unmarked_below(&self, number: EventId, marks: &[bool], count: usize) -> usize
         requires here { number < length marks.now }
@@ -88,6 +101,9 @@ impl<'p> Numbered<'p> {
         ensures whole { (a : ℕ) → a < result → ListsEachWrite self.now a }
         ensures last { result < count → ¬ ListsEachWrite self.now result }
     {
+        if self.are_all_marked(marks) {
+            return count;
+        }
         let mut whole = count;
         for number in 0..self.len() as EventId {
             whole = self.unmarked_below(number, marks, whole);
