@@ -1,7 +1,7 @@
 -- Keys in a heap, and one beside it.
-use Rattle.std.proofs.Common.{◌≡◌, ◌<◌, ◌≤◌, ◌∷◌, ◌∙◌, inl, inr, ℕ, Bool, List, [], get_or, length, arith, refl, sym, ap}
+use Rattle.std.proofs.Common.{◌≡◌, ◌<◌, ◌≤◌, ◌∷◌, ◌∙◌, inl, inr, ℕ, List, [], get_or, length, arith, refl, sym}
 use Rattle.std.proofs.Common.{Option, Some, None}
-use Rattle.std.specs.Prelude.{◌↔◌, IsTrue, IsPermutation, IfNone, IfSome, MatchOption}
+use Rattle.std.specs.Prelude.{◌↔◌, IsPermutation, IfNone, IfSome, MatchOption}
 use Rattle.std.specs.BinaryHeap.{IsHeap, IsUpperBound, PopsGreatest}
 use Rattle.std.specs.Ordering.{nat_cmp}
 use Rattle.std.proofs.lemmas.Bool.{cases_eq, cases_lt}
