@@ -121,9 +121,13 @@ bare_app =
       };
     }
 
+-- a program with one command more
+abbrev pub with_command : App → Text × List (Text × Takes) → App
+with_command app c = with_subcommand app (command_app c).top
+
 -- the program with these commands
 abbrev pub with_commands : List (Text × List (Text × Takes)) → App
-with_commands = fold (λ app c. with_subcommand app (command_app c).top) bare_app
+with_commands = fold with_command bare_app
 
 -- the program with its commands; its name is not among the words
 abbrev pub program_app : App

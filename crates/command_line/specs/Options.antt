@@ -33,6 +33,8 @@ use Rattle.command_line.specs.declared.options.OptionStop.TheVariants.{Clap, Ref
 use Rattle.command_line.specs.declared.options.OptionStop.TheVariants.{StandardInputTwice, Misfit, Refused, OutOfMemory}
 use Rattle.command_line.specs.declared.options.TheConstants.{ATTEMPTS, BUFFER, DEFAULT_SEED, FROM, LIMIT, LINES, TRIALS}
 use Rattle.command_line.specs.declared.options.TheConstants.{CYCLES, RUNS, STATES, WORKERS}
+use Rattle.command_line.specs.declared.counts.Counts.{Counts}
+use Rattle.command_line.specs.declared.flags.Flags.{Flags}
 use Rattle.command_line.specs.declared.values.Values.{Values}
 use Rattle.command_line.specs.Commands.{HaveNoMistake, command_of, program_app}
 use Rattle.command_line.specs.Entries.{HasEntries, machine_fault_of, misfit_of, names_standard_input_twice, cycles_of}
@@ -71,6 +73,28 @@ AreLines lines rows = MayBeNumber (codes "lines") LINES lines rows
 abbrev pub AreRuns : Option ℕ → List Row → Type 0
 AreRuns runs rows = MayBeNumber (codes "runs") RUNS runs rows
 
+-- each count is its entry, or else its default; none is refused
+pub record AreCountsAsked (v : Counts) (rows : List Row) : Type 0 where
+  pub states : IsNumber (codes "states") STATES rows v.states
+  pub runs : AreRuns v.runs rows
+  pub cycles : MayBeNumber (codes "cycles") CYCLES v.cycles rows
+  pub from : IsNumber (codes "from") FROM rows v.from
+  pub lines : AreLines v.lines rows
+
+-- each flag says whether the words have it
+pub record AreFlagsAsked (v : Flags) (rows : List Row) : Type 0 where
+  pub reduce : v.reduce ≡ is_given (codes "reduce") rows
+  pub header : v.header ≡ is_given (codes "header") rows
+  pub partial : v.partial ≡ is_given (codes "partial") rows
+  pub quiet : v.quiet ≡ is_given (codes "quiet") rows
+  pub all : v.all ≡ is_given (codes "all") rows
+  pub each : v.each ≡ is_given (codes "each") rows
+  pub complete : v.complete ≡ is_given (codes "complete") rows
+  pub unseen : v.unseen ≡ is_given (codes "unseen") rows
+  pub why : v.why ≡ is_given (codes "why") rows
+  pub long : v.long ≡ is_given (codes "long") rows
+  pub forbidden : v.forbidden ≡ is_given (codes "forbidden") rows
+
 -- each number, the fault and each flag is its entry, or else its default; none is refused
 pub record AreValuesAsked (v : Values) (rows : List Row) : Type 0 where
   pub shape : shape_asked rows ≡ option_map Ok v.shape
@@ -84,22 +108,8 @@ pub record AreValuesAsked (v : Values) (rows : List Row) : Type 0 where
   pub fault : machine_fault_of rows ≡ Some v.fault
   pub show : v.show ≡ show_of rows
   pub shown : is_some v.shape ≡ true → IfSome v.show (λ k. k < v.part.trials)
-  pub reduce : v.reduce ≡ is_given (codes "reduce") rows
-  pub header : v.header ≡ is_given (codes "header") rows
-  pub partial : v.partial ≡ is_given (codes "partial") rows
-  pub quiet : v.quiet ≡ is_given (codes "quiet") rows
-  pub all : v.all ≡ is_given (codes "all") rows
-  pub each : v.each ≡ is_given (codes "each") rows
-  pub complete : v.complete ≡ is_given (codes "complete") rows
-  pub states : IsNumber (codes "states") STATES rows v.states
-  pub unseen : v.unseen ≡ is_given (codes "unseen") rows
-  pub why : v.why ≡ is_given (codes "why") rows
-  pub long : v.long ≡ is_given (codes "long") rows
-  pub runs : AreRuns v.runs rows
-  pub cycles : MayBeNumber (codes "cycles") CYCLES v.cycles rows
-  pub forbidden : v.forbidden ≡ is_given (codes "forbidden") rows
-  pub from : IsNumber (codes "from") FROM rows v.from
-  pub lines : AreLines v.lines rows
+  pub counts : AreCountsAsked v.counts rows
+  pub flags : AreFlagsAsked v.flags rows
 
 -- each option of run is its entry, or else its default
 pub record AreRunOptions (o : RunOptions) (rows : List Row) : Type 0 where

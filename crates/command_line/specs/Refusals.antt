@@ -63,6 +63,12 @@ show_refusal rows =
 abbrev pub lines_refusal : List Row → Option OptionRefusal
 lines_refusal rows = option_or (number_refusal (codes "from") FROM rows) (number_refusal (codes "lines") LINES rows)
 
+-- K12 to K14 and K16
+abbrev pub counts_refusal : List Row → Option OptionRefusal
+counts_refusal rows = option_or (number_refusal (codes "states") STATES rows)
+    (option_or (number_refusal (codes "runs") RUNS rows)
+    (option_or (number_refusal (codes "cycles") CYCLES rows) (lines_refusal rows)))
+
 -- K1 to K4, K15, K5 to K10, K12 to K14 and K16; what has no entry is not refused
 abbrev pub refusal_of : List Row → Option OptionRefusal
 refusal_of rows = option_or (sizes_refusal rows)
@@ -72,7 +78,4 @@ refusal_of rows = option_or (sizes_refusal rows)
     (option_or (number_refusal (codes "buffer") BUFFER rows)
     (option_or (number_refusal (codes "workers") WORKERS rows)
     (option_or (fault_refusal rows)
-    (option_or (show_refusal rows)
-    (option_or (number_refusal (codes "states") STATES rows)
-    (option_or (number_refusal (codes "runs") RUNS rows)
-    (option_or (number_refusal (codes "cycles") CYCLES rows) (lines_refusal rows)))))))))))
+    (option_or (show_refusal rows) (counts_refusal rows))))))))

@@ -1,12 +1,14 @@
 //! The command line, as `clap` reads and explains it.
-ghost use Rattle.std.specs.Prelude.{◌≡◌, IfOk, Some, false, map, true};
+ghost use Rattle.std.specs.Prelude.{◌≡◌, IfOk, Some, false, fold, map, true};
 ghost use Rattle.clap.specs.Words.{app_of, rule_of};
+ghost use Rattle.clap.specs.declared.builder.ArgAction.TheVariants.{Set};
+ghost use Rattle.clap.specs.declared.builder.value_parser.ValueParser.TheVariants.{Unsigned};
 ghost use Rattle.command_line.specs.Help.{has_right_help, help_of};
 ghost use Rattle.command_line.specs.Commands.{Builds, bare_app, command_app, program_app, row_of, rule_by};
-ghost use Rattle.command_line.specs.Commands.{with_commands};
+ghost use Rattle.command_line.specs.Commands.{with_command};
 
-use crate::pages::{PROGRAM, page_of};
-use crate::table::{ArgumentRow, COMMANDS, CommandRow, Takes};
+use crate::pages::page_of;
+use crate::table::{ArgumentRow, CommandRow, Takes, asking, counting, explaining, running};
 use clap::{Arg, ArgAction, Command};
 use common::VERSION_LINE;
 use std::alloc::{AllocError, Global};
@@ -17,6 +19,34 @@ fn version() -> &'static str {
         Some((_name, version)) => version,
         None => VERSION_LINE,
     }
+}
+
+/// An option with this name, whose value is a text.
+fn text_option<'a>(arg: Arg<'a>, name: &'a str, value: &'a str) -> Arg<'a>
+    ensures rule { rule_of result ≡ record (rule_of arg.entry) {
+      long = Some name.now;
+      value_names = 1;
+      action = Some Set;
+    } }
+    ensures help { help_of result ≡ help_of arg.entry }
+    ensures local { result.global ≡ arg.entry.global }
+{
+    arg.long(name).value_name(value).action(ArgAction::Set)
+}
+
+/// An option with this name, whose value is a number of 64 bits.
+fn number_option<'a>(arg: Arg<'a>, name: &'a str, value: &'a str) -> Arg<'a>
+    ensures rule { rule_of result ≡ record (rule_of arg.entry) {
+      long = Some name.now;
+      value_names = 1;
+      parser = Some (Unsigned 0 18446744073709551615);
+    } }
+    ensures help { help_of result ≡ help_of arg.entry }
+    ensures local { result.global ≡ arg.entry.global }
+{
+    arg.long(name)
+        .value_name(value)
+        .value_parser(clap::value_parser!(u64))
 }
 
 /// An argument or an option.
@@ -30,27 +60,11 @@ fn arg<'a>(alloc: Global, row: &ArgumentRow) -> Arg<'a>
         Takes::Place => arg.required(true).action(ArgAction::Set),
         Takes::MaybePlaces => arg.action(ArgAction::Append),
         Takes::Places => arg.required(true).action(ArgAction::Append),
-        Takes::Text => arg
-            .long(row.name)
-            .value_name(row.value)
-            .action(ArgAction::Set),
-        Takes::Shown => arg
-            .long("show")
-            .value_name(row.value)
-            .action(ArgAction::Set),
-        Takes::Number => arg
-            .long(row.name)
-            .value_name(row.value)
-            .value_parser(clap::value_parser!(u64)),
-        Takes::Most => arg
-            .long("all")
-            .value_name(row.value)
-            .value_parser(clap::value_parser!(u64)),
-        Takes::Size => arg
-            .long(row.name)
-            .value_name(row.value)
-            .value_parser(clap::value_parser!(u64))
-            .required(true),
+        Takes::Text => text_option(arg, row.name, row.value),
+        Takes::Shown => text_option(arg, "show", row.value),
+        Takes::Number => number_option(arg, row.name, row.value),
+        Takes::Most => number_option(arg, "all", row.value),
+        Takes::Size => number_option(arg, row.name, row.value).required(true),
         Takes::Nothing => arg.long(row.name).action(ArgAction::SetTrue),
     }
 }
@@ -74,38 +88,47 @@ fn command_of<'a>(alloc: Global, row: &CommandRow) -> Result<Command<'a>, AllocE
 fn bare<'a>(alloc: Global) -> Result<Command<'a>, AllocError>
     ensures { Builds result bare_app }
 {
+    let page = page_of("tsotest");
     let command = Command::new(alloc, "tsotest").bin_name("tsotest")?;
     Ok(
         command
             .no_binary_name(true)
             .version(version())
-            .about(PROGRAM.about)
-            .after_help(PROGRAM.statuses)
+            .about(page.about)
+            .after_help(page.statuses)
             .subcommand_required(true),
     )
 }
 
-/// The program with these commands.
-fn program<'a>(alloc: Global, rows: &[CommandRow]) -> Result<Command<'a>, AllocError>
+/// A program with these commands as well.
+fn with_rows<'a>(
+    alloc: Global,
+    program: Command<'a>,
+    rows: &[CommandRow],
+) -> Result<Command<'a>, AllocError>
     requires { has_right_help rows.now ≡ true }
-    ensures { IfOk result (λ c. app_of c ≡ with_commands (map row_of rows.now)) }
+    ensures { IfOk result (λ c. app_of c ≡ fold with_command (app_of program.entry) (map row_of rows.now)) }
 {
-    let mut program = bare(alloc)?;
+    let mut longer = program;
     for row in rows {
         match command_of(alloc, row) {
-            Ok(command) => program = program.subcommand(command)?,
+            Ok(command) => longer = longer.subcommand(command)?,
             Err(refused) => {
-                drop(program);
+                drop(longer);
                 return Err(refused);
             }
         }
     }
-    Ok(program)
+    Ok(longer)
 }
 
 /// The command line of the program, of whose words the first is not the program's name.
 pub fn command<'a>(alloc: Global) -> Result<Command<'a>, AllocError>
     ensures { IfOk result (λ c. app_of c ≡ program_app) }
 {
-    program(alloc, COMMANDS)
+    let program = bare(alloc)?;
+    let program = with_rows(alloc, program, running())?;
+    let program = with_rows(alloc, program, explaining())?;
+    let program = with_rows(alloc, program, counting())?;
+    with_rows(alloc, program, asking())
 }

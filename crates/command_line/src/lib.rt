@@ -2,8 +2,12 @@
 #![tactic(auto)]
 
 mod build;
+mod counts;
 mod entries;
+mod flags;
+mod limited;
 mod named;
+mod names;
 mod options;
 mod pages;
 mod shards;

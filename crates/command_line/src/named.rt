@@ -1,14 +1,14 @@
 //! The options of the command with a name.
-ghost use Rattle.std.specs.Prelude.{◌≡◌, ◌≢◌, ◌+◌, ◌%◌, ◌^◌, ◌++◌, [], IfOk, List, None, OnOk, Some, codes, map};
-ghost use Rattle.std.specs.Prelude.{option_map, string_bytes};
-ghost use Rattle.clap.specs.Words.{Row, first_of, found_of, rows_of};
-ghost use Rattle.command_line.specs.Entries.{HasEntries, HasText, joined_from, names_given, with_space};
-ghost use Rattle.command_line.specs.Options.{AreExplainOptions, AreMakeOptions, AreMergeOptions, AreOptionsOf};
-ghost use Rattle.command_line.specs.Options.{AreRunOptions, AreOutcomesOptions, AreSurveyOptions, AreValuesAsked};
-ghost use Rattle.command_line.specs.Options.{IsCompletionAsked, IsQuestion, size_asked};
+ghost use Rattle.std.specs.Prelude.{◌≡◌, ◌≢◌, ◌+◌, ◌%◌, ◌^◌, IfOk, List, None, Some, codes};
+ghost use Rattle.clap.specs.Words.{Row, found_of, rows_of};
+ghost use Rattle.command_line.specs.Entries.{HasEntries, HasText};
+ghost use Rattle.command_line.specs.Options.{AreExplainOptions};
+ghost use Rattle.command_line.specs.Options.{AreOptionsOf};
+ghost use Rattle.command_line.specs.Options.{AreValuesAsked, IsCompletionAsked, IsQuestion, size_asked};
 ghost use Rattle.command_line.specs.Refusals.{refusal_of};
 
-use crate::entries::{maybe_text, maybe_texts};
+use crate::entries::maybe_texts;
+use crate::names::{given, joined, maybe_given};
 use crate::options::{
     CompleteOptions, DrawOptions, ExplainOptions, FileOptions, JudgeOptions, LiveOptions,
     MakeOptions, MergeOptions, Options, OutcomesOptions, Question, RunOptions, SurveyOptions,
@@ -20,38 +20,11 @@ use program::Campaign;
 use recording::RecordingSize;
 use std::alloc::{AllocError, Global};
 
-/// The name that an argument gives.
-fn given(alloc: Global, matches: &ArgMatches<'_>, id: &str) -> Result<String, AllocError>
-    requires { HasText id.now (rows_of (found_of matches.now)) }
-    ensures { IfOk result (λ name. first_of id.now (rows_of (found_of matches.now))
-        ≡ Some (string_bytes name)) }
-{
-    let Some(text) = maybe_text(matches, id) else {
-        unreachable!()
-    };
-    String::from_str(alloc, text)
-}
-
-/// The name that an option may give.
-fn maybe_given(
-    alloc: Global,
-    matches: &ArgMatches<'_>,
-    id: &str,
-) -> Result<Option<String>, AllocError>
-    ensures { IfOk result (λ name. first_of id.now (rows_of (found_of matches.now))
-        ≡ option_map string_bytes name) }
-{
-    match maybe_text(matches, id) {
-        Some(name) => Ok(Some(String::from_str(alloc, name)?)),
-        None => Ok(None),
-    }
-}
-
 /// The size of the recordings that are taken.
 fn size_asked(values: &Values) -> RecordingSize
     ensures { (rows : List Row) → AreValuesAsked values.now rows → result ≡ size_asked rows }
 {
-    if values.long {
+    if values.flags.long {
         RecordingSize::Long
     } else {
         RecordingSize::Short
@@ -109,29 +82,29 @@ fn run_options(
     alloc: Global,
     matches: &ArgMatches<'_>,
     values: &Values,
-) -> Result<RunOptions, AllocError>
+) -> Result<Options, AllocError>
     requires program { HasText (codes "PROGRAM") (rows_of (found_of matches.now)) }
     requires values { AreValuesAsked values.now (rows_of (found_of matches.now)) }
-    ensures { IfOk result (λ o. AreRunOptions o (rows_of (found_of matches.now))) }
+    ensures { IfOk result (λ o. AreOptionsOf o (codes "run") (rows_of (found_of matches.now))) }
 {
-    Ok(RunOptions {
+    Ok(Options::Run(RunOptions {
         program: given(alloc, matches, "PROGRAM")?,
         steps: maybe_given(alloc, matches, "steps")?,
         seed: values.seed,
         attempts: values.attempts,
         buffer: values.buffer,
         fault: values.fault,
-        runs: values.runs,
+        runs: values.counts.runs,
         workers: values.workers,
-    })
+    }))
 }
 
 /// How many states are looked at at most for each line, where lines are completed.
 fn completion_asked(values: &Values) -> Option<usize>
     ensures { (rows : List Row) → AreValuesAsked values.now rows → IsCompletionAsked result rows }
 {
-    if values.complete {
-        Some(values.states)
+    if values.flags.complete {
+        Some(values.counts.states)
     } else {
         None
     }
@@ -142,24 +115,24 @@ fn survey_options(
     alloc: Global,
     matches: &ArgMatches<'_>,
     values: &Values,
-) -> Result<SurveyOptions, AllocError>
+) -> Result<Options, AllocError>
     requires file { HasText (codes "FILE") (rows_of (found_of matches.now)) }
     requires values { AreValuesAsked values.now (rows_of (found_of matches.now)) }
-    ensures { IfOk result (λ o. AreSurveyOptions o (rows_of (found_of matches.now))) }
+    ensures { IfOk result (λ o. AreOptionsOf o (codes "survey") (rows_of (found_of matches.now))) }
 {
-    Ok(SurveyOptions {
+    Ok(Options::Survey(SurveyOptions {
         file: given(alloc, matches, "FILE")?,
-        each: values.each,
+        each: values.flags.each,
         show: values.show,
-        reduce: values.reduce,
+        reduce: values.flags.reduce,
         workers: values.workers,
-        quiet: values.quiet,
-        long: values.long,
+        quiet: values.flags.quiet,
+        long: values.flags.long,
         complete: completion_asked(values),
-        from: values.from,
-        lines: values.lines,
-        header: values.header,
-    })
+        from: values.counts.from,
+        lines: values.counts.lines,
+        header: values.flags.header,
+    }))
 }
 
 /// The options of `merge`.
@@ -167,10 +140,10 @@ fn merge_options(
     alloc: Global,
     matches: &ArgMatches<'_>,
     values: &Values,
-) -> Result<MergeOptions, AllocError>
+) -> Result<Options, AllocError>
     requires file { HasText (codes "FILE") (rows_of (found_of matches.now)) }
     requires values { AreValuesAsked values.now (rows_of (found_of matches.now)) }
-    ensures { IfOk result (λ o. AreMergeOptions o (rows_of (found_of matches.now))) }
+    ensures { IfOk result (λ o. AreOptionsOf o (codes "merge") (rows_of (found_of matches.now))) }
 {
     let Some(texts) = maybe_texts(matches, "FILE") else {
         unreachable!()
@@ -180,10 +153,10 @@ fn merge_options(
         let name = String::from_str(alloc, text)?;
         files.push(name)?;
     }
-    Ok(MergeOptions {
+    Ok(Options::Merge(MergeOptions {
         files,
-        partial: values.partial,
-    })
+        partial: values.flags.partial,
+    }))
 }
 
 /// The question that entries ask of outcomes.
@@ -198,8 +171,8 @@ fn question(
     if let Some(file) = maybe_given(alloc, matches, "observed")? {
         return Ok(Question::Observed {
             file,
-            unseen: values.unseen,
-            why: values.why,
+            unseen: values.flags.unseen,
+            why: values.flags.why,
         });
     }
     if let Some(items) = maybe_given(alloc, matches, "exists")? {
@@ -219,43 +192,18 @@ fn outcomes_options(
     alloc: Global,
     matches: &ArgMatches<'_>,
     values: &Values,
-) -> Result<OutcomesOptions, AllocError>
+) -> Result<Options, AllocError>
     requires program { HasText (codes "PROGRAM") (rows_of (found_of matches.now)) }
     requires values { AreValuesAsked values.now (rows_of (found_of matches.now)) }
-    ensures { IfOk result (λ o. AreOutcomesOptions o (rows_of (found_of matches.now))) }
+    ensures { IfOk result (λ o. AreOptionsOf o (codes "outcomes") (rows_of (found_of matches.now))) }
 {
     let program = given(alloc, matches, "PROGRAM")?;
     let question = question(alloc, matches, values)?;
-    Ok(OutcomesOptions {
+    Ok(Options::Outcomes(OutcomesOptions {
         program,
         question,
-        states: values.states,
-    })
-}
-
-/// Adds a text, after a space unless it is the first.
-fn join(words: &mut String, text: &str) -> Result<(), AllocError>
-    ensures { OnOk result (string_bytes words.new ≡ with_space (string_bytes words.old) ++ text.now) }
-{
-    if !words.is_empty() {
-        words.push_str(" ")?;
-    }
-    words.push_str(text)
-}
-
-/// The texts that an argument gives, with spaces between them.
-fn joined(alloc: Global, matches: &ArgMatches<'_>, id: &str) -> Result<String, AllocError>
-    ensures { IfOk result (λ words. string_bytes words ≡ joined_from [] (names_given id.now (rows_of (found_of
-        matches.now)))) }
-{
-    let mut words = String::new(alloc);
-    let Some(texts) = maybe_texts(matches, id) else {
-        return Ok(words);
-    };
-    for text in texts {
-        join(&mut words, text)?;
-    }
-    Ok(words)
+        states: values.counts.states,
+    }))
 }
 
 /// The options of `make`.
@@ -263,17 +211,159 @@ fn make_options(
     alloc: Global,
     matches: &ArgMatches<'_>,
     values: &Values,
-) -> Result<MakeOptions, AllocError>
+) -> Result<Options, AllocError>
     requires { AreValuesAsked values.now (rows_of (found_of matches.now)) }
-    ensures { IfOk result (λ o. AreMakeOptions o (rows_of (found_of matches.now))) }
+    ensures { IfOk result (λ o. AreOptionsOf o (codes "make") (rows_of (found_of matches.now))) }
 {
-    if let Some(events) = values.cycles {
-        return Ok(MakeOptions::All {
+    if let Some(events) = values.counts.cycles {
+        return Ok(Options::Make(MakeOptions::All {
             events,
-            forbidden: values.forbidden,
-        });
+            forbidden: values.flags.forbidden,
+        }));
     }
-    Ok(MakeOptions::Cycle(joined(alloc, matches, "WORD")?))
+    let words = joined(alloc, matches, "WORD")?;
+    Ok(Options::Make(MakeOptions::Cycle(words)))
+}
+
+/// The options of `judge`, with `--long` or without it.
+fn judge_options(
+    alloc: Global,
+    matches: &ArgMatches<'_>,
+    values: &Values,
+) -> Result<Options, AllocError>
+    requires file { HasText (codes "FILE") (rows_of (found_of matches.now)) }
+    requires values { AreValuesAsked values.now (rows_of (found_of matches.now)) }
+    ensures { IfOk result (λ o. AreOptionsOf o (codes "judge") (rows_of (found_of matches.now))) }
+{
+    let file = given(alloc, matches, "FILE")?;
+    if values.flags.long {
+        return Ok(Options::JudgeLong(FileOptions { file }));
+    }
+    Ok(Options::Judge(JudgeOptions {
+        file,
+        workers: values.workers,
+    }))
+}
+
+/// The options of `trials`.
+fn trials_options(values: &Values) -> Options
+    requires sizes { values.now.shape ≢ None }
+    requires values { (rows : List Row) × AreValuesAsked values.now rows }
+    ensures { (rows : List Row) → AreValuesAsked values.now rows → AreOptionsOf result (codes "trials") rows }
+{
+    Options::Trials(TrialsOptions {
+        campaign: campaign_of(values),
+        workers: values.workers,
+        show: values.show,
+        reduce: values.flags.reduce,
+        header: values.flags.header,
+        quiet: values.flags.quiet,
+    })
+}
+
+/// The options of `live`.
+fn live_options(
+    alloc: Global,
+    matches: &ArgMatches<'_>,
+    values: &Values,
+) -> Result<Options, AllocError>
+    requires program { HasText (codes "PROGRAM") (rows_of (found_of matches.now)) }
+    requires values { AreValuesAsked values.now (rows_of (found_of matches.now)) }
+    ensures { IfOk result (λ o. AreOptionsOf o (codes "live") (rows_of (found_of matches.now))) }
+{
+    Ok(Options::Live(LiveOptions {
+        program: given(alloc, matches, "PROGRAM")?,
+        buffer: values.buffer,
+        limit: values.limit,
+        runs: values.counts.runs,
+    }))
+}
+
+/// The options of `replay`.
+fn replay_options(alloc: Global, matches: &ArgMatches<'_>) -> Result<Options, AllocError>
+    requires { HasText (codes "FILE") (rows_of (found_of matches.now)) }
+    ensures { IfOk result (λ o. AreOptionsOf o (codes "replay") (rows_of (found_of matches.now))) }
+{
+    Ok(Options::Replay(FileOptions {
+        file: given(alloc, matches, "FILE")?,
+    }))
+}
+
+/// The options of `explain`.
+fn explain_options(
+    alloc: Global,
+    matches: &ArgMatches<'_>,
+    values: &Values,
+) -> Result<Options, AllocError>
+    requires file { HasText (codes "FILE") (rows_of (found_of matches.now)) }
+    requires values { AreValuesAsked values.now (rows_of (found_of matches.now)) }
+    ensures { IfOk result (λ o. AreOptionsOf o (codes "explain") (rows_of (found_of matches.now))) }
+{
+    Ok(Options::Explain(recorded(alloc, matches, values)?))
+}
+
+/// The options of `draw`.
+fn draw_options(
+    alloc: Global,
+    matches: &ArgMatches<'_>,
+    values: &Values,
+) -> Result<Options, AllocError>
+    requires file { HasText (codes "FILE") (rows_of (found_of matches.now)) }
+    requires values { AreValuesAsked values.now (rows_of (found_of matches.now)) }
+    ensures { IfOk result (λ o. AreOptionsOf o (codes "draw") (rows_of (found_of matches.now))) }
+{
+    Ok(Options::Draw(DrawOptions {
+        recording: recorded(alloc, matches, values)?,
+        all: values.flags.all,
+    }))
+}
+
+/// The options of `reduce`.
+fn reduce_options(
+    alloc: Global,
+    matches: &ArgMatches<'_>,
+    values: &Values,
+) -> Result<Options, AllocError>
+    requires file { HasText (codes "FILE") (rows_of (found_of matches.now)) }
+    requires values { AreValuesAsked values.now (rows_of (found_of matches.now)) }
+    ensures { IfOk result (λ o. AreOptionsOf o (codes "reduce") (rows_of (found_of matches.now))) }
+{
+    Ok(Options::Reduce(recorded(alloc, matches, values)?))
+}
+
+/// The options of `verify`.
+fn verify_options(
+    alloc: Global,
+    matches: &ArgMatches<'_>,
+    values: &Values,
+) -> Result<Options, AllocError>
+    requires recording { HasText (codes "RECORDING") (rows_of (found_of matches.now)) }
+    requires verdict { HasText (codes "VERDICT") (rows_of (found_of matches.now)) }
+    requires values { AreValuesAsked values.now (rows_of (found_of matches.now)) }
+    ensures { IfOk result (λ o. AreOptionsOf o (codes "verify") (rows_of (found_of matches.now))) }
+{
+    Ok(Options::Verify(VerifyOptions {
+        recording: given(alloc, matches, "RECORDING")?,
+        verdict: given(alloc, matches, "VERDICT")?,
+        size: size_asked(values),
+        workers: values.workers,
+    }))
+}
+
+/// The options of `complete`.
+fn complete_options(
+    alloc: Global,
+    matches: &ArgMatches<'_>,
+    values: &Values,
+) -> Result<Options, AllocError>
+    requires file { HasText (codes "FILE") (rows_of (found_of matches.now)) }
+    requires values { AreValuesAsked values.now (rows_of (found_of matches.now)) }
+    ensures { IfOk result (λ o. AreOptionsOf o (codes "complete") (rows_of (found_of matches.now))) }
+{
+    Ok(Options::Complete(CompleteOptions {
+        file: given(alloc, matches, "FILE")?,
+        states: values.counts.states,
+    }))
 }
 
 /// The options of the command with this name.
@@ -289,51 +379,20 @@ pub fn named_options(
     ensures { IfOk result (λ o. AreOptionsOf o name.now (rows_of (found_of matches.now))) }
 {
     match name {
-        "run" => Ok(Options::Run(run_options(alloc, matches, values)?)),
-        "judge" if values.long => Ok(Options::JudgeLong(FileOptions {
-            file: given(alloc, matches, "FILE")?,
-        })),
-        "judge" => Ok(Options::Judge(JudgeOptions {
-            file: given(alloc, matches, "FILE")?,
-            workers: values.workers,
-        })),
-        "trials" => Ok(Options::Trials(TrialsOptions {
-            campaign: campaign_of(values),
-            workers: values.workers,
-            show: values.show,
-            reduce: values.reduce,
-            header: values.header,
-            quiet: values.quiet,
-        })),
-        "live" => Ok(Options::Live(LiveOptions {
-            program: given(alloc, matches, "PROGRAM")?,
-            buffer: values.buffer,
-            limit: values.limit,
-            runs: values.runs,
-        })),
-        "replay" => Ok(Options::Replay(FileOptions {
-            file: given(alloc, matches, "FILE")?,
-        })),
-        "explain" => Ok(Options::Explain(recorded(alloc, matches, values)?)),
-        "draw" => Ok(Options::Draw(DrawOptions {
-            recording: recorded(alloc, matches, values)?,
-            all: values.all,
-        })),
-        "reduce" => Ok(Options::Reduce(recorded(alloc, matches, values)?)),
-        "verify" => Ok(Options::Verify(VerifyOptions {
-            recording: given(alloc, matches, "RECORDING")?,
-            verdict: given(alloc, matches, "VERDICT")?,
-            size: size_asked(values),
-            workers: values.workers,
-        })),
-        "survey" => Ok(Options::Survey(survey_options(alloc, matches, values)?)),
-        "merge" => Ok(Options::Merge(merge_options(alloc, matches, values)?)),
-        "outcomes" => Ok(Options::Outcomes(outcomes_options(alloc, matches, values)?)),
-        "complete" => Ok(Options::Complete(CompleteOptions {
-            file: given(alloc, matches, "FILE")?,
-            states: values.states,
-        })),
-        "make" => Ok(Options::Make(make_options(alloc, matches, values)?)),
+        "run" => run_options(alloc, matches, values),
+        "judge" => judge_options(alloc, matches, values),
+        "trials" => Ok(trials_options(values)),
+        "live" => live_options(alloc, matches, values),
+        "replay" => replay_options(alloc, matches),
+        "explain" => explain_options(alloc, matches, values),
+        "draw" => draw_options(alloc, matches, values),
+        "reduce" => reduce_options(alloc, matches, values),
+        "verify" => verify_options(alloc, matches, values),
+        "survey" => survey_options(alloc, matches, values),
+        "merge" => merge_options(alloc, matches, values),
+        "outcomes" => outcomes_options(alloc, matches, values),
+        "complete" => complete_options(alloc, matches, values),
+        "make" => make_options(alloc, matches, values),
         _ => unreachable!(),
     }
 }

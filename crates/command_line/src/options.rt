@@ -331,7 +331,7 @@ pub enum Question {
 
 /// Why the entries of words that `clap` takes are refused. Where several apply, the first in this order
 /// is answered.
-#[derive(Clone, Copy, Drop, PartialEq, Eq)]
+#[derive(Clone, Copy, Drop)]
 pub enum OptionRefusal {
     /// K1 to K7: the sizes of programs, the number of trials, of attempts (of `live` the limit), or the
     /// buffer's capacity.
@@ -355,7 +355,7 @@ pub enum OptionRefusal {
 }
 
 /// Options that don't go together.
-#[derive(Clone, Copy, Debug, Drop, PartialEq, Eq)]
+#[derive(Clone, Copy, Debug, Drop)]
 pub enum Misfit {
     /// `--each` reports all recordings, and `--show` one of them instead.
     EachWithShow,
@@ -399,87 +399,68 @@ pub enum Misfit {
     ForbiddenWithoutAll,
 }
 
-impl Display for Misfit {
-    fn fmt<W: Write>(&self, f: &mut Formatter<W>) -> fmt::Result {
+impl Misfit {
+    /// What `clap` says of such options.
+    fn message(self) -> &'static str {
         match self {
-            Misfit::EachWithShow => {
-                f.write_str("error: the argument '--show <K>' cannot be used with '--each'")?;
-            }
+            Misfit::EachWithShow => "error: the argument '--show <K>' cannot be used with '--each'",
             Misfit::HeaderWithShow => {
-                f.write_str("error: the argument '--show <K>' cannot be used with '--header'")?;
+                "error: the argument '--show <K>' cannot be used with '--header'"
             }
-            Misfit::HeaderWithEach => {
-                f.write_str("error: the argument '--header' cannot be used with '--each'")?;
-            }
+            Misfit::HeaderWithEach => "error: the argument '--header' cannot be used with '--each'",
             Misfit::HeaderWithComplete => {
-                f.write_str("error: the argument '--header' cannot be used with '--complete'")?;
+                "error: the argument '--header' cannot be used with '--complete'"
             }
             Misfit::HeaderWithoutLines => {
-                f.write_str(
-                    "error: the following required arguments were not provided:\n  --lines <N>",
-                )?;
+                "error: the following required arguments were not provided:\n  --lines <N>"
             }
             Misfit::CompleteWithShow => {
-                f.write_str("error: the argument '--show <K>' cannot be used with '--complete'")?;
+                "error: the argument '--show <K>' cannot be used with '--complete'"
             }
             Misfit::ReduceWithoutShow => {
-                f.write_str(
-                    "error: the following required arguments were not provided:\n  --show <K>",
-                )?;
+                "error: the following required arguments were not provided:\n  --show <K>"
             }
             Misfit::StatesWithoutComplete => {
-                f.write_str(
-                    "error: the following required arguments were not provided:\n  --complete",
-                )?;
+                "error: the following required arguments were not provided:\n  --complete"
             }
             Misfit::TwoQuestions => {
-                f.write_str(
-                    "error: only one of '--observed', '--exists', '--never' and '--show' can be used",
-                )?;
+                "error: only one of '--observed', '--exists', '--never' and '--show' can be used"
             }
             Misfit::UnseenWithoutObserved | Misfit::WhyWithoutObserved => {
-                f.write_str(
-                    "error: the following required arguments were not provided:\n  --observed <FILE>",
-                )?;
+                "error: the following required arguments were not provided:\n  --observed <FILE>"
             }
             Misfit::RunsWithSteps => {
-                f.write_str(
-                    "error: the argument '--runs <N>' cannot be used with '--steps <FILE>'",
-                )?;
+                "error: the argument '--runs <N>' cannot be used with '--steps <FILE>'"
             }
             Misfit::WorkersWithoutRuns => {
-                f.write_str(
-                    "error: the following required arguments were not provided:\n  --runs <N>",
-                )?;
+                "error: the following required arguments were not provided:\n  --runs <N>"
             }
             Misfit::CompleteWithLong => {
-                f.write_str("error: the argument '--complete' cannot be used with '--long'")?;
+                "error: the argument '--complete' cannot be used with '--long'"
             }
-            Misfit::ReduceWithLong => {
-                f.write_str("error: the argument '--reduce' cannot be used with '--long'")?;
-            }
+            Misfit::ReduceWithLong => "error: the argument '--reduce' cannot be used with '--long'",
             Misfit::WorkersWithLong => {
-                f.write_str("error: the argument '--workers <N>' cannot be used with '--long'")?;
+                "error: the argument '--workers <N>' cannot be used with '--long'"
             }
             Misfit::CycleWithAll => {
-                f.write_str("error: the argument '[WORD]...' cannot be used with '--all <N>'")?;
+                "error: the argument '[WORD]...' cannot be used with '--all <N>'"
             }
             Misfit::NoCycle => {
-                f.write_str(
-                    "error: the following required arguments were not provided:\n  <WORD>...",
-                )?;
+                "error: the following required arguments were not provided:\n  <WORD>..."
             }
             Misfit::ForbiddenWithoutAll => {
-                f.write_str(
-                    "error: the following required arguments were not provided:\n  --all <N>",
-                )?;
+                "error: the following required arguments were not provided:\n  --all <N>"
             }
             Misfit::ProgramWithLong => {
-                f.write_str(
-                    "error: the argument '--program <PROGRAM>' cannot be used with '--long'",
-                )?;
+                "error: the argument '--program <PROGRAM>' cannot be used with '--long'"
             }
         }
+    }
+}
+
+impl Display for Misfit {
+    fn fmt<W: Write>(&self, f: &mut Formatter<W>) -> fmt::Result {
+        f.write_str(self.message())?;
         f.write_str("\n\nFor more information, try '--help'.")
     }
 }

@@ -12,7 +12,7 @@ pub struct Page {
 }
 
 /// The page of the program.
-pub const PROGRAM: Page = Page {
+const PROGRAM: Page = Page {
     about: "Runs multiprocessor programs under total store order (TSO)",
     more: "",
     statuses: "Exit status:
@@ -476,7 +476,7 @@ Examples:
   tsotest make --all 6 --forbidden",
 };
 
-/// The page of the command with this name.
+/// The page of the command with this name, or else of the program.
 pub fn page_of(name: &str) -> Page {
     match name {
         "run" => RUN,

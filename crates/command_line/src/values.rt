@@ -3,19 +3,20 @@ ghost use Rattle.std.specs.Prelude.{◌≡◌, ◌<◌, IfOk, IfSome, Ok, Some, 
 ghost use Rattle.std.specs.Result.{result_err};
 ghost use Rattle.clap.specs.Words.{found_of, rows_of};
 ghost use Rattle.command_line.specs.Entries.{AreEntries, HasNumber, machine_fault_of, show_of};
-ghost use Rattle.command_line.specs.Options.{AreValuesAsked, IsNumber, MayBeNumber};
-ghost use Rattle.command_line.specs.Refusals.{fault_refusal, number_refusal, refusal_of, refusal_of_show};
-ghost use Rattle.command_line.specs.Refusals.{shape_asked, sizes_refusal};
+ghost use Rattle.command_line.specs.Options.{AreValuesAsked};
+ghost use Rattle.command_line.specs.Refusals.{fault_refusal, refusal_of, refusal_of_show, shape_asked, sizes_refusal};
 
-use crate::entries::{flag, maybe_text, number, number_or};
+use crate::counts::{Counts, read_counts};
+use crate::entries::{maybe_text, number, number_or};
+use crate::flags::{Flags, read_flags};
+use crate::limited::limited;
 use crate::options::{
-    ATTEMPTS, BUFFER, CYCLES, DEFAULT_FAULT, DEFAULT_SEED, FROM, LIMIT, LINES, Limits,
-    OptionRefusal, RUNS, STATES, WORKERS,
+    ATTEMPTS, BUFFER, DEFAULT_FAULT, DEFAULT_SEED, LIMIT, OptionRefusal, WORKERS,
 };
 use crate::shards::part;
 use clap::ArgMatches;
 use headers::fault_named;
-use program::{Fault, Part, Shape, is_outside};
+use program::{Fault, Part, Shape};
 
 /// The numbers, the fault and the flags that entries ask for: where there is no entry, the default.
 #[derive(Drop)]
@@ -29,35 +30,8 @@ pub struct Values {
     pub workers: usize,
     pub fault: Fault,
     pub show: Option<usize>,
-    pub reduce: bool,
-    pub header: bool,
-    pub partial: bool,
-    pub quiet: bool,
-    pub all: bool,
-    pub each: bool,
-    pub complete: bool,
-    pub states: usize,
-    pub unseen: bool,
-    pub why: bool,
-    pub long: bool,
-    pub runs: Option<usize>,
-    pub cycles: Option<usize>,
-    pub forbidden: bool,
-    pub from: usize,
-    pub lines: Option<usize>,
-}
-
-/// The number of an option, where it is within its limits.
-fn limited(matches: &ArgMatches<'_>, id: &str, limits: Limits) -> Result<usize, OptionRefusal>
-    requires { HasNumber id.now (rows_of (found_of matches.now)) }
-    ensures ok { IfOk result (IsNumber id.now limits (rows_of (found_of matches.now))) }
-    ensures err { result_err result ≡ number_refusal id.now limits (rows_of (found_of matches.now)) }
-{
-    let asked = number_or(matches, id, limits.default) as usize;
-    if is_outside(limits.most, asked) {
-        return Err(limits.refusal);
-    }
-    Ok(asked)
+    pub counts: Counts,
+    pub flags: Flags,
 }
 
 /// The shape of the sizes, where there are sizes.
@@ -111,23 +85,6 @@ fn show(
     }
 }
 
-/// The number of an option, where there is an entry, and it is within its limits.
-fn maybe_limited(
-    matches: &ArgMatches<'_>,
-    id: &str,
-    limits: Limits,
-) -> Result<Option<usize>, OptionRefusal>
-    requires { HasNumber id.now (rows_of (found_of matches.now)) }
-    ensures ok { IfOk result (λ n. MayBeNumber id.now limits n (rows_of (found_of matches.now))) }
-    ensures err { result_err result ≡ number_refusal id.now limits (rows_of (found_of matches.now)) }
-{
-    let asked = limited(matches, id, limits)?;
-    match number(matches, id) {
-        Some(_) => Ok(Some(asked)),
-        None => Ok(None),
-    }
-}
-
 /// What the entries ask for, or the first refusal: K1 to K4, K15, K5 to K10, K12 to K14, K16.
 pub fn read_values(matches: &ArgMatches<'_>) -> Result<Values, OptionRefusal>
     requires { AreEntries (rows_of (found_of matches.now)) }
@@ -142,11 +99,7 @@ pub fn read_values(matches: &ArgMatches<'_>) -> Result<Values, OptionRefusal>
     let workers = limited(matches, "workers", WORKERS)?;
     let fault = fault(matches)?;
     let show = show(matches, shape.is_some(), part.trials)?;
-    let states = limited(matches, "states", STATES)?;
-    let runs = maybe_limited(matches, "runs", RUNS)?;
-    let cycles = maybe_limited(matches, "cycles", CYCLES)?;
-    let from = limited(matches, "from", FROM)?;
-    let lines = maybe_limited(matches, "lines", LINES)?;
+    let counts = read_counts(matches)?;
     Ok(Values {
         shape,
         seed: number_or(matches, "seed", DEFAULT_SEED),
@@ -157,21 +110,7 @@ pub fn read_values(matches: &ArgMatches<'_>) -> Result<Values, OptionRefusal>
         workers,
         fault,
         show,
-        reduce: flag(matches, "reduce"),
-        header: flag(matches, "header"),
-        partial: flag(matches, "partial"),
-        quiet: flag(matches, "quiet"),
-        all: flag(matches, "all"),
-        each: flag(matches, "each"),
-        complete: flag(matches, "complete"),
-        states,
-        unseen: flag(matches, "unseen"),
-        why: flag(matches, "why"),
-        long: flag(matches, "long"),
-        runs,
-        cycles,
-        forbidden: flag(matches, "forbidden"),
-        from,
-        lines,
+        counts,
+        flags: read_flags(matches),
     })
 }

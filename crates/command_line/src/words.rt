@@ -98,6 +98,16 @@ fn refusal_asked(words: &[String]) -> Option<Refusal<&'static str>>
     }
 }
 
+/// The options of the command that `clap` reads of the words.
+fn read_options(alloc: Global, words: &[String]) -> Result<Options, OptionStop>
+    ensures ok { IfOk result (λ o. AreOptions o (command_of (map string_bytes words.now))) }
+    ensures err { IfErr result (λ stop. IsOptionStop stop (map string_bytes words.now)) }
+    ensures taken { IfOk result (λ _. HaveNoMistake (map string_bytes words.now)) }
+{
+    let matches = read(command(alloc)?, words)?;
+    command_options(alloc, &matches)
+}
+
 /// The options that the words ask for. They come without the program's name.
 pub fn options(alloc: Global, words: &[String]) -> Result<Options, OptionStop>
     ensures ok { IfOk result (λ o. AreOptions o (command_of (map string_bytes words.now))) }
@@ -113,6 +123,5 @@ pub fn options(alloc: Global, words: &[String]) -> Result<Options, OptionStop>
     if let Some(refusal) = refusal_asked(words) {
         return Err(OptionStop::RefusalMeaning(refusal));
     }
-    let matches = read(command(alloc)?, words)?;
-    command_options(alloc, &matches)
+    read_options(alloc, words)
 }

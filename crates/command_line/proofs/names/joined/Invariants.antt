@@ -1,7 +1,7 @@
 use Rattle.std.proofs.Common.{◌≡◌, [], drop, map}
 use Rattle.std.specs.Prelude.{string_bytes}
 use Rattle.command_line.specs.Entries.{joined_from}
-use Rattle.command_line.proofs.named.joined.Given as goal
+use Rattle.command_line.proofs.names.joined.Given as goal
 
 abbrev pub invariant-loop-text : goal.invariant-loop-text
 invariant-loop-text l = joined_from [] (map (λ v. v.now) l.texts)
