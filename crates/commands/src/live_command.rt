@@ -4,7 +4,6 @@ ghost use Rattle.inputs.specs.Inputs.{ReadsNamed};
 ghost use Rattle.live.specs.Driven.{IsDriveError};
 ghost use Rattle.commands.specs.Run.{IsLive, IsLiveAnswer, IsLiveStop};
 
-use run_answers::{finished, live_histogram_answer};
 use command_line::LiveOptions;
 use common::OpenGate;
 use devices::Host;
@@ -13,6 +12,7 @@ use inputs::{CommandError, CommandStop, program_at};
 use live::{LiveError, drive};
 use program::Program;
 use report::Answer;
+use run_answers::{finished, live_histogram_answer};
 use std::alloc::Global;
 use std::sync::Wait;
 use std::thread::Threads;

@@ -7,7 +7,6 @@ ghost use Rattle.commands.specs.Command.{input_names, script_name};
 ghost use Rattle.command_line.specs.declared.options.Options.{Options};
 ghost use Rattle.commands.specs.Run.{IsRun, IsRunStop, IsScriptAnswer, IsScriptStop};
 
-use run_answers::{script_answer, seeded_answer, seeded_histogram_answer};
 use command_line::RunOptions;
 use devices::Host;
 use histograms::SeededRuns;
@@ -15,6 +14,7 @@ use inputs::{CommandError, CommandStop, line_refusal, program_at, step_refusal_n
 use machine::{StepsError, parse_steps};
 use program::Program;
 use report::Answer;
+use run_answers::{script_answer, seeded_answer, seeded_histogram_answer};
 use std::alloc::Global;
 use std::thread::Threads;
 

@@ -8,12 +8,12 @@ ghost use Rattle.commands.specs.Run.{IsTrials, campaign_header};
 
 use crate::choices::violation_form;
 use crate::headed::headed;
-use run_answers::{campaign_answer, shown_answer};
 use command_line::TrialsOptions;
 use devices::Host;
 use headers::Header;
 use inputs::CommandStop;
 use report::Answer;
+use run_answers::{campaign_answer, shown_answer};
 use std::alloc::Global;
 use std::sync::Wait;
 use std::thread::Threads;

@@ -1,7 +1,7 @@
 //! What a survey reports.
 
 /// What a survey reports while it lasts.
-#[derive(Clone, Copy, Debug, Drop, PartialEq, Eq)]
+#[derive(Clone, Copy, Drop, PartialEq, Eq)]
 pub enum Reports {
     /// Each line, by what is found in it.
     EachLine,
