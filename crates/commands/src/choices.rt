@@ -1,8 +1,9 @@
 //! What options choose, by name.
 ghost use Rattle.std.specs.Prelude.{◌≡◌};
-ghost use Rattle.commands.specs.Choices.{cycle_choice, unseen_form, violation_form};
+ghost use Rattle.commands.specs.Choices.{cycle_choice, progress_visibility, unseen_form, violation_form};
 
 use answers::{CycleChoice, ViolationForm};
+use devices::Visibility;
 use outcome_texts::UnseenForm;
 
 /// How a violation is answered, by `--reduce`.
@@ -35,5 +36,16 @@ pub(crate) fn unseen_form(unseen: bool) -> UnseenForm
         UnseenForm::Lines
     } else {
         UnseenForm::Count
+    }
+}
+
+/// Whether progress is shown, by `--quiet`.
+pub(crate) fn progress_visibility(quiet: bool) -> Visibility
+    ensures { result ≡ progress_visibility quiet }
+{
+    if quiet {
+        Visibility::Hidden
+    } else {
+        Visibility::Shown
     }
 }

@@ -8,7 +8,7 @@ ghost use Rattle.inputs.specs.Inputs.{ReadsNamed, ReadsInput, is_write_failure};
 ghost use Rattle.commands.specs.Survey.{IsCountsAnswer, IsEachError, IsEachWritten, IsShown, IsSurveyed, IsSurveyOf};
 ghost use Rattle.commands.specs.Survey.{IsSurveyStop, TellsEach, line_kind, lines_counted, range_of, survey_header};
 
-use crate::choices::violation_form;
+use crate::choices::{progress_visibility, violation_form};
 use crate::headed::headed;
 use crate::output::write_output;
 use answers::{CountsPlace, line_answer, survey_answer, values_survey_answer};
@@ -121,7 +121,7 @@ fn counted<R: Threads + Wait + Sync, H: Host, W: Sink>(
 {
     let input = opened(alloc, host, options.file.as_str())?;
     let mut lines = LinesOf::new(input, range_of(options));
-    let progress = host.progress(None, options.quiet);
+    let progress = host.progress(None, progress_visibility(options.quiet));
     let kind = line_kind(options);
     let surveyed = survey(
         rt,

@@ -6,7 +6,7 @@ ghost use Rattle.inputs.specs.declared.command_error.CommandError.TheVariants as
 ghost use Rattle.inputs.specs.declared.command_stop.CommandStop.TheVariants.{Failed};
 ghost use Rattle.commands.specs.Run.{IsTrials, campaign_header};
 
-use crate::choices::violation_form;
+use crate::choices::{progress_visibility, violation_form};
 use crate::headed::headed;
 use command_line::TrialsOptions;
 use devices::Host;
@@ -44,7 +44,8 @@ pub fn trials_command<R: Threads + Wait + Sync, H: Host>(
     match options.show {
         Some(k) => Ok(shown_answer(alloc, &options.campaign, k, violation_form(options.reduce))?),
         None => {
-            let progress = host.progress(Some(options.campaign.trials()), options.quiet);
+            let visibility = progress_visibility(options.quiet);
+            let progress = host.progress(Some(options.campaign.trials()), visibility);
             let counts = campaign_answer(rt, alloc, &options.campaign, options.workers, &progress)?;
             Ok(headed(alloc, campaign_header(options), counts)?)
         }

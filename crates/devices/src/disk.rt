@@ -2,7 +2,7 @@
 
 use crate::device::Device;
 use crate::host::{Host, InputError, Tally};
-use crate::progress::{Progress, is_shown};
+use crate::progress::{Progress, Visibility, is_shown};
 use std::fs::File;
 use std::io;
 use std::io::{ErrorKind, Read, Stdin};
@@ -129,8 +129,13 @@ impl<'a> Host for Disk<'a> {
         self.tally.take_back(input.is_ended(), input.has_failed());
     }
 
-    fn progress(&self, trials: Option<usize>, is_quiet: bool) -> Progress<'a> {
-        Progress::new(self.rt, trials, is_quiet || self.text.is_some())
+    fn progress(&self, trials: Option<usize>, visibility: Visibility) -> Progress<'a> {
+        let visibility = if self.text.is_some() {
+            Visibility::Hidden
+        } else {
+            visibility
+        };
+        Progress::new(self.rt, trials, visibility)
     }
 
     fn refuse(&mut self, line: String) {

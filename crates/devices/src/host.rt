@@ -1,6 +1,7 @@
 //! Where a command's inputs come from, and where it shows how far it is.
 
 use crate::bytes::Source;
+use crate::progress::Visibility;
 use common::Gate;
 
 /// Why an input was not given.
@@ -84,9 +85,9 @@ pub trait Host {
         ensures asked { (log self.new).asked ≡ (log self.old).asked }
         ensures kept { bytes self.new ≡ bytes self.old };
 
-    /// A gate that shows the progress of this many trials, or of recordings whose number is not known. A quiet one
-    /// shows nothing.
-    fn progress(&self, trials: Option<usize>, is_quiet: bool) -> Self::Progress;
+    /// A gate that shows the progress of this many trials, or of recordings whose number is not known, unless it is
+    /// hidden.
+    fn progress(&self, trials: Option<usize>, visibility: Visibility) -> Self::Progress;
 
     /// Takes the line of an input that is refused, as a person is shown it.
     fn refuse(&mut self, line: String)

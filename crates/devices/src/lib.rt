@@ -16,5 +16,5 @@ pub use disk::{Disk, Opened};
 pub use host::{Host, InputError, Tally};
 pub use memory::{MemorySink, MemorySource};
 pub use noted::Noted;
-pub use progress::{BETWEEN_LINES, FIRST_LINE, Line, Progress, line_due};
+pub use progress::{BETWEEN_LINES, FIRST_LINE, Line, Progress, Visibility, line_due};
 pub use whole::{ReadError, read_all, read_more, write_all};

@@ -18,6 +18,15 @@ pub const BETWEEN_LINES: u64 = 250;
 /// What takes the longest line away.
 const BLANKS: &str = "\r                                                                \r";
 
+/// Whether progress is shown.
+#[derive(Clone, Copy, Debug, Drop, PartialEq, Eq)]
+pub enum Visibility {
+    /// Its lines are written on a terminal.
+    Shown,
+    /// No line is written.
+    Hidden,
+}
+
 /// How far a campaign is, or a survey.
 #[derive(Clone, Copy, PartialEq, Eq)]
 pub struct Line {
@@ -51,13 +60,19 @@ impl Display for Line {
 
 /// The line that is due this many milliseconds after the beginning, if any. The last one was written at
 /// `last`; 0 stands for none.
-pub fn line_due(is_terminal: bool, elapsed: u64, last: u64, line: Line) -> Option<Line>
-    ensures { result ≡ line_due is_terminal elapsed last line }
+pub fn line_due(visibility: Visibility, elapsed: u64, last: u64, line: Line) -> Option<Line>
+    ensures { result ≡ line_due visibility elapsed last line }
 {
-    if is_terminal && elapsed >= FIRST_LINE && elapsed.saturating_sub(last) >= BETWEEN_LINES {
-        return Some(line);
+    match visibility {
+        Visibility::Hidden => None,
+        Visibility::Shown => {
+            if elapsed >= FIRST_LINE && elapsed.saturating_sub(last) >= BETWEEN_LINES {
+                Some(line)
+            } else {
+                None
+            }
+        }
     }
-    None
 }
 
 fn millis(time: Duration) -> u64 {
@@ -72,10 +87,10 @@ pub(crate) fn is_shown(rt: &HostRuntime) -> bool {
 }
 
 /// Shows how far work is, on standard error where that is a terminal. Its end takes the line away.
-/// Without a clock, or where it is quiet, it shows nothing.
+/// Without a clock, or where it is hidden, it shows nothing.
 pub struct Progress<'a> {
     rt: &'a HostRuntime,
-    is_terminal: bool,
+    visibility: Visibility,
     begun: Option<Instant>,
     trials: Option<usize>,
     done: AtomicUsize,
@@ -85,10 +100,14 @@ pub struct Progress<'a> {
 
 impl<'a> Progress<'a> {
     /// That of a campaign of this many trials, or of a survey, which begins.
-    pub fn new(rt: &'a HostRuntime, trials: Option<usize>, is_quiet: bool) -> Progress<'a> {
+    pub fn new(rt: &'a HostRuntime, trials: Option<usize>, visibility: Visibility) -> Progress<'a> {
         Progress {
             rt,
-            is_terminal: !is_quiet && is_shown(rt),
+            visibility: if is_shown(rt) {
+                visibility
+            } else {
+                Visibility::Hidden
+            },
             begun: Instant::now(rt).ok(),
             trials,
             done: AtomicUsize::new(0),
@@ -105,7 +124,7 @@ impl<'a> Progress<'a> {
             trials: self.trials,
             found: self.found.load(Ordering::SeqCst),
         };
-        let Some(line) = line_due(self.is_terminal, elapsed, last, line) else {
+        let Some(line) = line_due(self.visibility, elapsed, last, line) else {
             return;
         };
         let claim = self
@@ -121,7 +140,7 @@ impl Gate for Progress<'_> {
     fn begin(&self, _worker: usize, _piece: usize) {}
 
     fn done(&self, _worker: usize, _piece: usize) {
-        if !self.is_terminal {
+        if self.visibility == Visibility::Hidden {
             return;
         }
         self.done.fetch_add(1, Ordering::SeqCst);
@@ -145,7 +164,7 @@ impl Drop for Progress<'_> {
         }
         let Self {
             rt,
-            is_terminal,
+            visibility,
             begun,
             trials,
             done,
