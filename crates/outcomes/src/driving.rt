@@ -85,6 +85,39 @@ fn make_and_follow(
     }
 }
 
+/// A machine of a program at its beginning, whose buffers have room for all operations.
+fn opened(alloc: Global, program: &Program) -> Result<Replay, OutOfMemory>
+    ensures { IfOk result (HasComeTo program.now (beginning program.now)) }
+{
+    program.sound();
+    let capacity = op_count(program.lists());
+    let machine = Machine::new(alloc, program.copy(alloc)?, capacity, Fault::None)?;
+    Ok(Replay {
+        machine,
+        steps: Vec::new(alloc),
+    })
+}
+
+/// A machine at its beginning makes moves that can be made.
+fn follow(
+    alloc: Global,
+    program: &Program,
+    replay: &mut Replay,
+    turns: &[Turn],
+) -> Result<(), OutOfMemory>
+    requires begun { HasComeTo program.now (beginning program.now) replay.old }
+    requires can { (r : Situation) × (after_moves program.now.cores (beginning program.now) turns.now ≡ Some r) }
+    ensures { OnOk result ((r : Situation)
+        → after_moves program.now.cores (beginning program.now) turns.now ≡ Some r
+        → HasComeTo program.now r replay.new) }
+{
+    let mut row = beginning(alloc, program)?;
+    for turn in turns {
+        make_and_follow(alloc, program, replay, &mut row, *turn)?;
+    }
+    Ok(())
+}
+
 /// A machine of a program that has made moves that can be made. Fails only if out of memory.
 pub(crate) fn drive(alloc: Global, program: &Program, turns: &[Turn]) -> Result<Replay, OutOfMemory>
     requires { (r : Situation) × (after_moves program.now.cores (beginning program.now) turns.now ≡ Some r) }
@@ -92,16 +125,7 @@ pub(crate) fn drive(alloc: Global, program: &Program, turns: &[Turn]) -> Result<
         → after_moves program.now.cores (beginning program.now) turns.now ≡ Some r
         → HasComeTo program.now r replay) }
 {
-    program.sound();
-    let capacity = op_count(program.lists());
-    let machine = Machine::new(alloc, program.copy(alloc)?, capacity, Fault::None)?;
-    let mut replay = Replay {
-        machine,
-        steps: Vec::new(alloc),
-    };
-    let mut row = beginning(alloc, program)?;
-    for turn in turns {
-        make_and_follow(alloc, program, &mut replay, &mut row, *turn)?;
-    }
+    let mut replay = opened(alloc, program)?;
+    follow(alloc, program, &mut replay, turns)?;
     Ok(replay)
 }

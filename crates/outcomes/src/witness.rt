@@ -1,6 +1,6 @@
 //! Recordings of the first outcome with some values.
 
-ghost use Rattle.std.specs.Prelude.{◌≡◌, ◌↔◌, IfNone, IfOk, IfSome, IsTrue, option_map};
+ghost use Rattle.std.specs.Prelude.{◌≡◌, ◌↔◌, ℕ, IfNone, IfOk, IfSome, IsTrue, option_map};
 ghost use Rattle.outcomes.specs.Listed.{IsEnding};
 ghost use Rattle.outcomes.specs.Reachable.{AreReachable, outcome_in};
 ghost use Rattle.outcomes.specs.Situation.{IsEnd};
@@ -90,6 +90,24 @@ fn recording_of(
     }
 }
 
+/// What these rows, to which moves lead, show of the values: a recording of the first outcome that has them, or that
+/// none has.
+fn witness_among(
+    alloc: Global,
+    program: &Program,
+    rows: &Rows,
+    seen: &[Observation],
+) -> Result<Witness, OutOfMemory>
+    requires { AreReachable program.now rows.now.keys }
+    ensures { IfOk result (λ witness. (limit : ℕ) → IsWitness program.now limit seen.now witness) }
+{
+    let found = listed(alloc, program, rows)?;
+    match first_showing(found.as_slice(), seen) {
+        Some(outcome) => Ok(Witness::Found(recording_of(alloc, program, rows, outcome)?)),
+        None => Ok(Witness::Forbidden),
+    }
+}
+
 /// A recording of the first outcome of a program that has the values, where TSO allows one and no more than `limit`
 /// situations have to be looked at. Fails only if out of memory.
 pub fn first_recording(
@@ -100,15 +118,8 @@ pub fn first_recording(
 ) -> Result<Witness, OutOfMemory>
     ensures { IfOk result (IsWitness program.now limit seen.now) }
 {
-    let Some(rows) = search(alloc, program, limit)? else {
-        return Ok(Witness::Unfinished);
-    };
-    let found = listed(alloc, program, &rows)?;
-    match first_showing(found.as_slice(), seen) {
-        Some(outcome) => {
-            let recording = recording_of(alloc, program, &rows, outcome)?;
-            Ok(Witness::Found(recording))
-        }
-        None => Ok(Witness::Forbidden),
+    match search(alloc, program, limit)? {
+        Some(rows) => witness_among(alloc, program, &rows, seen),
+        None => Ok(Witness::Unfinished),
     }
 }

@@ -2,7 +2,7 @@ use Rattle.std.proofs.Common.{◌≡◌, drop}
 use Rattle.outcomes.specs.Follow.{HasComeTo}
 use Rattle.outcomes.specs.Reachable.{after_moves}
 use Rattle.outcomes.specs.Situation.{beginning}
-use Rattle.outcomes.proofs.driving.drive.Given as goal
+use Rattle.outcomes.proofs.driving.follow.Given as goal
 
 abbrev pub invariant-loop-turn : goal.invariant-loop-turn
 invariant-loop-turn l = record {
