@@ -1,7 +1,8 @@
 -- The sections of files.
 use Rattle.std.proofs.Common.{◌≡◌, ◌∙◌, ◌+◌, ◌<◌, ◌++◌, [], ◌∷◌, ℕ, List, ap, append_assoc, append-nil, arith, get_or}
 use Rattle.std.proofs.Common.{length, length-append, refl, subst, sym, take, Ok, Err}
-use Rattle.std.specs.Prelude.{IfErr}
+use Rattle.std.specs.List.{flat_map}
+use Rattle.std.specs.Prelude.{All, IfErr}
 use Rattle.std.specs.declared.result.Result.{Result}
 use Rattle.std.proofs.lemmas.List.{take_more}
 use Rattle.ledger.specs.declared.merge_error.MergeError.{MergeError}
@@ -9,8 +10,8 @@ use Rattle.ledger.specs.declared.merge_error.MergeError.TheVariants as errors
 use Rattle.ledger.specs.declared.merge_error.TextError.{TextError}
 use Rattle.ledger.specs.declared.merge_error.TextError.TheVariants.{Refused, OutOfMemory}
 use Rattle.ledger.specs.Merges.{IsLocated}
-use Rattle.ledger.specs.Sections.{AreSections, AreSectionsOf, HasSections, Section}
-use Rattle.ledger.specs.Unread.{IsUnread, IsUnreadAmong, IsUnreadFile}
+use Rattle.ledger.specs.Sections.{AreOf, AreSections, AreSectionsOf, HasSections, IsSection, Section, bytes_of}
+use Rattle.ledger.specs.Unread.{IsNoSection, IsNoneAdded, IsUnread, IsUnreadAmong, IsUnreadFile}
 
 -- one file more
 snoc : (files : List (List ℕ)) (bytes : List ℕ) (s more : List Section) → AreSectionsOf files s → HasSections more bytes
@@ -57,6 +58,26 @@ sections_some (bytes ∷ files) s some h =
     front : (l : List Section) → HasSections l bytes → 0 < length l
     front [] are = absurd (are.some are.all)
     front (x ∷ l) are = omega arith
+
+-- where no section begins, none is added
+pub none_added : (error : TextError) (before : List Section) (rest : List ℕ) → IsNoSection rest error
+    → IsNoneAdded before rest error
+none_added OutOfMemory before rest none = tt
+none_added (Refused refusal left) before rest none = λ t more s begins alike. none t more s begins
+
+-- where none is added after some sections of a file, the file is unread
+pub unread_from : (error : TextError) (before found done : List Section) (rest bytes : List ℕ)
+    → found ≡ before ++ done → bytes ≡ flat_map bytes_of done ++ rest → All IsSection done
+    → IsNoneAdded found rest error → IsUnreadFile before bytes error
+unread_from OutOfMemory before found done rest bytes joined is are none = tt
+unread_from (Refused refusal left) before found done rest bytes joined is are none = record {
+  done = done;
+  rest = rest;
+  bytes_are = is;
+  are = are;
+  none = λ t more s begins alike.
+      none t more s begins (subst (λ (l : List Section). AreOf t.header.counted l) (sym joined) alike);
+}
 
 -- what follows for an error
 pub if_err : {X E : Type 0} (P Q : E → Type 0) (r : Result X E) → ((e : E) → P e → Q e) → IfErr r P → IfErr r Q

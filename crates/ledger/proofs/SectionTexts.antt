@@ -18,7 +18,7 @@ use Rattle.ledger.specs.Merges.{IsNoText, IsTextRead}
 use Rattle.ledger.specs.Sections.{Fits, IsSection, Section, bytes_of, kind_of}
 use Rattle.ledger.specs.TextOf.{HasTextOf}
 use Rattle.ledger.specs.Texts.{BeginsWithLedger, text_of}
-use Rattle.ledger.specs.Unread.{IsNoSection}
+use Rattle.ledger.specs.Unread.{IsNoSection, IsNoSectionUnder}
 use Rattle.ledger.proofs.WholeTexts.{same_some}
 
 -- what reading a header tells, where a section begins
@@ -43,15 +43,20 @@ text_begins kind text more rest codes b is = record {
   text = is ∙ ap (λ (l : List ℕ). l ++ more) (b.text ∙ append-nil (text_of kind b.ledger));
 }
 
--- where no text is read after a header, no section begins
-pub none_read : (error : TextError) (old new : List ℕ) (r : Option Header) (h : Header) (kind : Kind) → r ≡ Some h
-    → Tells old new r → kind ≡ kind_of h.counted → IsNoText kind new error → IsNoSection old error
-none_read OutOfMemory old new r h kind is tells same none = tt
-none_read (Refused refusal left) old new r h kind is tells same none = λ t more s begins.
-    let read = section_read old new r h t more is tells s begins in
-    let k : kind_of t.header.counted ≡ kind = ap (λ (x : Header). kind_of x.counted) (sym read.0) ∙ sym same in
-    none s.codes more (subst (λ (x : Kind). BeginsWithLedger x s.codes new more) k
-    (text_begins (kind_of t.header.counted) t.text more new s.codes s.text read.1))
+-- where no text is read, there is no section with the header
+pub none_read : (error : TextError) (rest : List ℕ) (h : Header) → IsNoText (kind_of h.counted) rest error
+    → IsNoSectionUnder h rest error
+none_read OutOfMemory rest h none = tt
+none_read (Refused refusal left) rest h none = λ t more s same begins.
+    none s.codes more (subst (λ (x : Header). BeginsWithLedger (kind_of x.counted) s.codes rest more) same
+    (text_begins (kind_of t.header.counted) t.text more rest s.codes s.text begins))
+
+-- where there is no section with the header that was read, no section begins
+pub none_under : (error : TextError) (old new : List ℕ) (r : Option Header) (h : Header) → r ≡ Some h
+    → Tells old new r → IsNoSectionUnder h new error → IsNoSection old error
+none_under OutOfMemory old new r h is tells none = tt
+none_under (Refused refusal left) old new r h is tells none = λ t more s begins.
+    let read = section_read old new r h t more is tells s begins in none t more s (sym read.0) read.1
 
 -- a first violation that fits
 pub first_low : (codes : List ℕ) (l : Ledger) (what : Counted) (count : ℕ) → IsLedger codes l

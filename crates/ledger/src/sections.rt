@@ -1,9 +1,12 @@
 //! Texts with headers.
 
-ghost use Rattle.std.specs.Prelude.{◌≡◌, ◌++◌, ◌<◌, ◌↔◌, ℕ, IfErr, IfOk, IsTrue, List, length, map};
-ghost use Rattle.headers.specs.Headers.{IsHeader, header_line};
+ghost use Rattle.std.specs.Prelude.{◌≡◌, ◌++◌, ◌<◌, ◌↔◌, ℕ, IfErr, IfOk, IsTrue, List, map};
+ghost use Rattle.headers.specs.Headers.{IsHeader};
 ghost use Rattle.ledger.specs.Sections.{AreAlike, AreSections, Fits, IsSection, bytes_of, kind_of, Section as Part};
-ghost use Rattle.ledger.specs.Unread.{IsFileOfSections, IsOther, IsNoSection, IsUnread, IsUnreadFile};
+ghost use Rattle.ledger.specs.Unread.{IsFileOfSections, IsNoneAdded, IsNoSection, IsNoSectionUnder, IsOther};
+ghost use Rattle.ledger.specs.Unread.{IsSectionAdded, IsUnread, IsUnreadFile};
+ghost use Rattle.ledger.specs.Merges.{IsTextRead};
+ghost use Rattle.ledger.specs.declared.ledger.Ledger.{Ledger};
 
 use crate::header::header;
 use crate::merge_error::{MergeError, MergeRefusal, TextError};
@@ -115,6 +118,57 @@ fn header_refusal(rest: &Cursor<'_>) -> MergeRefusal {
     }
 }
 
+/// Takes the counts that stand under a header. Answers the first violation that they tell.
+fn counts_under(
+    rest: &mut Cursor<'_>,
+    alloc: Global,
+    header: &Header,
+) -> Result<Option<usize>, TextError>
+    ensures ok { IfOk result (λ first. (l : Ledger) × IsTextRead (kind_of header.now.counted) rest.old rest.new l
+        × Fits header.now.counted header.now.count l.total × (first ≡ l.first)) }
+    ensures err { IfErr result (IsNoSectionUnder header.now rest.old) }
+{
+    let counts = rest.left();
+    let ledger = match read(rest, alloc, kind_of(&header.counted)) {
+        Ok(ledger) => ledger,
+        Err(error) => return Err(error),
+    };
+    if !fits(header, ledger.total) {
+        return Err(TextError::Refused {
+            refusal: MergeRefusal::NoCodes,
+            left: counts,
+        });
+    }
+    Ok(ledger.first)
+}
+
+/// Takes the text that stands under a header, in the file of this number, of which so many bytes were left from the
+/// header on.
+fn section_under<'a>(
+    rest: &mut Cursor<'a>,
+    alloc: Global,
+    header: Header,
+    file: usize,
+    left: usize,
+) -> Result<Section<'a>, TextError>
+    requires { IsHeader header }
+    ensures ok { IfOk result (λ s. (s.header ≡ header) × (rest.old ≡ s.text ++ rest.new)) }
+    ensures err { IfErr result (IsNoSectionUnder header rest.old) }
+{
+    let text = rest.rest();
+    let counts = rest.left();
+    match counts_under(rest, alloc, &header) {
+        Ok(violation) => Ok(Section {
+            header,
+            text: &text[..counts - rest.left()],
+            violation,
+            file,
+            left,
+        }),
+        Err(error) => Err(error),
+    }
+}
+
 /// Takes the section that stands next, in the file of this number.
 fn next_section<'a>(
     rest: &mut Cursor<'a>,
@@ -133,25 +187,7 @@ fn next_section<'a>(
             left,
         });
     };
-    let text = rest.rest();
-    let counts = rest.left();
-    let ledger = match read(rest, alloc, kind_of(&header.counted)) {
-        Ok(ledger) => ledger,
-        Err(error) => return Err(error),
-    };
-    if !fits(&header, ledger.total) {
-        return Err(TextError::Refused {
-            refusal: MergeRefusal::NoCodes,
-            left: counts,
-        });
-    }
-    Ok(Section {
-        header,
-        text: &text[..counts - rest.left()],
-        violation: ledger.first,
-        file,
-        left,
-    })
+    section_under(rest, alloc, header, file, left)
 }
 
 /// Why a section is none of those before it, if it is not.
@@ -170,6 +206,32 @@ fn other(before: &[Section<'_>], section: &Section<'_>) -> Option<MergeRefusal>
     } else {
         Some(MergeRefusal::OtherKind)
     }
+}
+
+/// Adds the section that stands next in a file.
+fn add_section<'a>(
+    alloc: Global,
+    rest: &mut Cursor<'a>,
+    file: usize,
+    found: &mut Vec<Section<'a>>,
+) -> Result<(), TextError>
+    requires { AreAlike found.old.items }
+    ensures ok { IfOk result (λ _. IsSectionAdded found.old.items found.new.items rest.old rest.new) }
+    ensures err { IfErr result (IsNoneAdded found.old.items rest.old) }
+{
+    let left = rest.left();
+    let next = match next_section(rest, alloc, file) {
+        Ok(next) => next,
+        Err(error) => return Err(error),
+    };
+    next.sound();
+    if let Some(refusal) = other(found.as_slice(), &next) {
+        return Err(TextError::Refused { refusal, left });
+    }
+    let Ok(()) = found.push(next) else {
+        return Err(TextError::OutOfMemory);
+    };
+    Ok(())
 }
 
 /// Adds the sections of a file.
@@ -191,18 +253,9 @@ fn add_sections<'a>(
     }
     let mut rest = Cursor::new(bytes);
     'sections: while rest.left() > 0 {
-        let left = rest.left();
-        let next = match next_section(&mut rest, alloc, file) {
-            Ok(next) => next,
-            Err(error) => return Err(error),
-        };
-        next.sound();
-        if let Some(refusal) = other(found.as_slice(), &next) {
-            return Err(TextError::Refused { refusal, left });
+        if let Err(error) = add_section(alloc, &mut rest, file, found) {
+            return Err(error);
         }
-        let Ok(()) = found.push(next) else {
-            return Err(TextError::OutOfMemory);
-        };
     }
     Ok(())
 }
