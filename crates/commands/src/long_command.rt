@@ -7,7 +7,7 @@ ghost use Rattle.commands.specs.Judge.{IsLongFileAnswer};
 use command_line::FileOptions;
 use devices::Host;
 use inputs::{CommandStop, text_at};
-use report::{Answer, long_answer};
+use report::{Answer, long_answer_of};
 use std::alloc::Global;
 
 /// Judges the recording of a named input, of any length.
@@ -21,5 +21,5 @@ pub fn long_command<H: Host>(
     ensures reads { ReadsNamed (string_bytes options.now.file ∷ []) (H.log host.old) (H.log host.new) result }
 {
     let bytes = text_at(alloc, host, options.file.as_str())?;
-    Ok(long_answer(alloc, bytes.as_slice())?)
+    Ok(long_answer_of(alloc, bytes)?)
 }

@@ -38,9 +38,13 @@ abbrev pub IsAnswerOf : List ℕ → Answer → Type 0
 IsAnswerOf bytes answer = ((x : Execution) × IsReadingResult bytes (Ok x) × (verdict : Verdict) × IsVerdict x verdict
     × (answer.outcome ≡ outcome_of verdict) × IsVerdictText x verdict answer.text.items) ⊎ IsRefusedAnswer bytes answer
 
+-- what is answered to a long recording: the text of an answer to it
+abbrev pub IsLongAnswerTo : Execution → Answer → Type 0
+IsLongAnswerTo x answer = (found : LongAnswer) × IsLongAnswer x found × (answer.outcome ≡ long_outcome found)
+    × IsLongText x found answer.text.items
+
 -- what is answered to the bytes as a long recording: the text of an answer to the recording that they are, or their
 -- refusal
 abbrev pub IsLongAnswerOf : List ℕ → Answer → Type 0
-IsLongAnswerOf bytes answer = ((x : Execution) × IsReadingOf Long bytes (Ok x) × (found : LongAnswer)
-    × IsLongAnswer x found × (answer.outcome ≡ long_outcome found)
-    × IsLongText x found answer.text.items) ⊎ IsRefusedOf Long bytes answer
+IsLongAnswerOf bytes answer = ((x : Execution) × IsReadingOf Long bytes (Ok x) × IsLongAnswerTo x answer)
+    ⊎ IsRefusedOf Long bytes answer

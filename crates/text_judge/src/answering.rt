@@ -2,7 +2,7 @@
 
 ghost use Rattle.std.specs.Prelude.{◌≤◌, IfOk};
 ghost use Rattle.recording.specs.declared.size.RecordingSize.TheVariants.{Short};
-ghost use Rattle.text_judge.specs.Answer.{IsAnswerOf, IsLongAnswerOf, IsReadOrRefused};
+ghost use Rattle.text_judge.specs.Answer.{IsAnswerOf, IsLongAnswerOf, IsLongAnswerTo, IsReadOrRefused};
 
 use common::{Gate, MAX_WORKERS, OutOfMemory};
 use judge::{judge_alone, judge_gated};
@@ -43,6 +43,15 @@ pub fn read_or_refuse(alloc: Global, bytes: &[u8]) -> Result<Result<Recording, A
     read_or_refuse_of(alloc, bytes, RecordingSize::Short)
 }
 
+/// The text of the answer to a recording of any length.
+fn long_answer_to(alloc: Global, recording: &Recording) -> Result<Answer, OutOfMemory>
+    ensures { IfOk result (IsLongAnswerTo recording.now) }
+{
+    let places = Places::of(alloc, recording)?;
+    let found = judge_long(alloc, &places)?;
+    long_text(alloc, &places, &found)
+}
+
 /// The text of the answer to the recording of any length that the bytes are, or the line of their refusal: an order,
 /// the least overlook, or a cycle of forced pairs of which no event is forced before another than its next. It does not
 /// block and starts no thread. Fails only if out of memory.
@@ -50,11 +59,19 @@ pub fn long_answer(alloc: Global, bytes: &[u8]) -> Result<Answer, OutOfMemory>
     ensures { IfOk result (IsLongAnswerOf bytes.now) }
 {
     match read_or_refuse_of(alloc, bytes, RecordingSize::Long)? {
-        Ok(recording) => {
-            let places = Places::of(alloc, &recording)?;
-            let found = judge_long(alloc, &places)?;
-            long_text(alloc, &places, &found)
-        }
+        Ok(recording) => long_answer_to(alloc, &recording),
+        Err(refused) => Ok(refused),
+    }
+}
+
+/// What `long_answer` answers, to bytes that are given back as soon as they are read.
+pub fn long_answer_of(alloc: Global, bytes: Vec<u8>) -> Result<Answer, OutOfMemory>
+    ensures { IfOk result (IsLongAnswerOf bytes.items) }
+{
+    let read = read_or_refuse_of(alloc, &bytes, RecordingSize::Long)?;
+    drop(bytes);
+    match read {
+        Ok(recording) => long_answer_to(alloc, &recording),
         Err(refused) => Ok(refused),
     }
 }

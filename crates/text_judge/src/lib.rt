@@ -3,4 +3,6 @@
 
 mod answering;
 
-pub use answering::{answer_alone, answer_by, long_answer, read_or_refuse, read_or_refuse_of};
+pub use answering::{
+    answer_alone, answer_by, long_answer, long_answer_of, read_or_refuse, read_or_refuse_of,
+};

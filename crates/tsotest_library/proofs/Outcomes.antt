@@ -74,7 +74,7 @@ no_long (long.Cycle c) o e order_not violation_not = violation_not e
 
 -- what is answered to the bytes of one
 pub long_answer_outcome : (bytes : List ℕ) (a : Answer) → IsLongAnswerOf bytes a → ComesOut outcome.Ordered a.outcome
-long_answer_outcome bytes a (inl (x, read, found, is, outcome, printed)) = long_one found a.outcome outcome
+long_answer_outcome bytes a (inl (x, read, (found, is, outcome, printed))) = long_one found a.outcome outcome
 long_answer_outcome bytes a (inr refused) = inr (inr refused.outcome)
 
 -- what is left of a recording
