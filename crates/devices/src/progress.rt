@@ -19,7 +19,7 @@ pub const BETWEEN_LINES: u64 = 250;
 const BLANKS: &str = "\r                                                                \r";
 
 /// Whether progress is shown.
-#[derive(Clone, Copy, Debug, Drop, PartialEq, Eq)]
+#[derive(Clone, Copy, Drop, PartialEq, Eq)]
 pub enum Visibility {
     /// Its lines are written on a terminal.
     Shown,
