@@ -7,13 +7,19 @@ use crate::lines::split_line;
 use common::OutOfMemory;
 use std::alloc::Global;
 use std::mem::replace;
+use std::sync::atomic::{AtomicUsize, Ordering};
 use std::sync::{Condvar, Mutex, Wait};
+use std::thread;
 
 /// How many batches lie on a queue at most.
 const SLOTS: usize = 512;
 
 /// How many bytes a batch has at least, but for the last one of a block.
 const BATCH: usize = 16_384;
+
+/// How often a thread looks for what it needs before it sleeps, some 150 microseconds in all: to wake it may take longer
+/// than to judge a batch of short recordings.
+const LOOKS: usize = 512;
 
 /// What lies at a slot.
 #[derive(Drop)]
@@ -227,6 +233,8 @@ pub(crate) struct WorkQueue {
     slots: Mutex<Slots>,
     was_put: Condvar,
     was_judged: Condvar,
+    /// How often a batch was put or put back.
+    changes: AtomicUsize,
 }
 
 impl WorkQueue {
@@ -251,6 +259,7 @@ impl WorkQueue {
             }),
             was_put: Condvar::new(),
             was_judged: Condvar::new(),
+            changes: AtomicUsize::new(0),
         })
     }
 
@@ -261,6 +270,7 @@ impl WorkQueue {
             return false;
         };
         let is_put = self.slots.lock(rt).put(copy, recordings);
+        self.changes.fetch_add(1, Ordering::SeqCst);
         self.was_put.notify_one();
         is_put
     }
@@ -294,11 +304,31 @@ impl WorkQueue {
     /// Puts a judged batch back to where it lay.
     pub(crate) fn put_back<R: Wait>(&self, rt: &R, at: usize, batch: Batch) {
         self.slots.lock(rt).put_back(at, batch);
+        self.changes.fetch_add(1, Ordering::SeqCst);
         self.was_judged.notify_one();
+    }
+
+    /// The next batch, if one waits by the time that all looks are over.
+    fn take_soon<R: Wait>(&self, rt: &R) -> Option<(usize, Batch)> {
+        let mut seen = usize::MAX;
+        for _ in 0..LOOKS {
+            let changes = self.changes.load(Ordering::SeqCst);
+            if changes != seen {
+                seen = changes;
+                if let Some(found) = self.slots.lock(rt).take() {
+                    return Some(found);
+                }
+            }
+            thread::yield_now();
+        }
+        None
     }
 
     /// The next batch that waits, and where it lay; none where the queue is closed.
     pub(crate) fn take<R: Wait>(&self, rt: &R) -> Option<(usize, Batch)> {
+        if let Some(found) = self.take_soon(rt) {
+            return Some(found);
+        }
         let held = self.slots.lock(rt);
         let mut held = self.was_put.wait_while(rt, held, |slots| {
             !slots.is_closed && !slots.has_waiting()
@@ -306,8 +336,28 @@ impl WorkQueue {
         held.take()
     }
 
+    /// What the thread that collects does next, if it need not wait by the time that all looks are over.
+    fn turn_soon<R: Wait>(&self, rt: &R, kept: usize) -> Option<Turn> {
+        let mut seen = usize::MAX;
+        for _ in 0..LOOKS {
+            let changes = self.changes.load(Ordering::SeqCst);
+            if changes != seen {
+                seen = changes;
+                let mut held = self.slots.lock(rt);
+                if !held.is_behind(kept) {
+                    return Some(held.turn(kept));
+                }
+            }
+            thread::yield_now();
+        }
+        None
+    }
+
     /// What the thread that collects does next. It waits only for a batch that a worker has.
     pub(crate) fn turn<R: Wait>(&self, rt: &R, kept: usize) -> Turn {
+        if let Some(turn) = self.turn_soon(rt, kept) {
+            return turn;
+        }
         let held = self.slots.lock(rt);
         let mut held = self
             .was_judged
