@@ -85,7 +85,7 @@ fn words_of(alloc: Global, line: &str) -> Result<Vec<String>, AllocError> {
 }
 
 /// What was performed: the outcome, or what is said of the error.
-fn said(
+fn outcome_or_text(
     alloc: Global,
     words: &[String],
     host: &Disk<'_>,
@@ -111,7 +111,7 @@ pub fn perform_lines<R: Threads + Wait + Sync>(
         let mut host = Disk::new(rt, Some(text));
         let mut out = Device::new(Buffered::new(alloc));
         let performed = perform(threads, alloc, &words, &mut host, &mut out);
-        let said = said(alloc, &words, &host, performed)?;
+        let said = outcome_or_text(alloc, &words, &host, performed)?;
         printed.push(printed_of(alloc, &out.into_inner().flushed, said)?)?;
     }
     Ok(printed)

@@ -112,7 +112,7 @@ impl Check<'_> {
 }
 
 /// What is known to hold, or not to, without a command line.
-fn known<'a>(alloc: Global, holds: bool) -> Check<'a> {
+fn check_known<'a>(alloc: Global, holds: bool) -> Check<'a> {
     Check {
         commands: Vec::new(alloc),
         wanted: Wanted::Known(holds),
@@ -120,7 +120,7 @@ fn known<'a>(alloc: Global, holds: bool) -> Check<'a> {
 }
 
 /// What one command line has to print.
-fn printed<'a>(
+fn check_of_command<'a>(
     alloc: Global,
     command: String,
     wanted: Wanted<'a>,
@@ -154,9 +154,9 @@ fn checks_of_cases<'a>(alloc: Global, text: &'a str) -> Result<Vec<Check<'a>>, A
 }
 
 /// That a program prints back, and that its runs by threads are complete, and in order.
-fn kept<'a>(alloc: Global, path: &str, text: &str) -> Result<Check<'a>, AllocError> {
+fn check_of_runs<'a>(alloc: Global, path: &str, text: &str) -> Result<Check<'a>, AllocError> {
     if !prints_back(alloc, text) {
-        return Ok(known(alloc, false));
+        return Ok(check_known(alloc, false));
     }
     let mut commands = Vec::new(alloc);
     commands.push(format!(in alloc; " live {path}.litmus --buffer 1")?)?;
@@ -168,11 +168,11 @@ fn kept<'a>(alloc: Global, path: &str, text: &str) -> Result<Check<'a>, AllocErr
 }
 
 /// That the order of a verdict, if it is one, is one of the recording at this path.
-fn ordered<'a>(rt: &HostRuntime, path: &str, verdict: &str) -> io::Result<Check<'a>> {
+fn check_of_order<'a>(rt: &HostRuntime, path: &str, verdict: &str) -> io::Result<Check<'a>> {
     let name = format!(in rt.alloc(); "{path}.json")?;
     let recording = fs::read(rt, name.as_str())?;
     let holds = has_order(rt.alloc(), recording.as_slice(), verdict)?;
-    Ok(known(rt.alloc(), holds))
+    Ok(check_known(rt.alloc(), holds))
 }
 
 /// What a rule asks of the file at this path, with this text, which has no cases.
@@ -181,16 +181,16 @@ fn check_of<'a>(rt: &HostRuntime, path: &str, rule: Rule, text: &'a str) -> io::
     match rule {
         Rule::Judged => {
             let command = format!(in alloc; " judge {path}.json")?;
-            Ok(printed(alloc, command, Wanted::Verdict(text))?)
+            Ok(check_of_command(alloc, command, Wanted::Verdict(text))?)
         }
         Rule::Seed(seed) => {
             let command = format!(in alloc; " run {path}.litmus --seed {seed}")?;
-            Ok(printed(alloc, command, Wanted::Run)?)
+            Ok(check_of_command(alloc, command, Wanted::Run)?)
         }
-        Rule::Kept => Ok(kept(alloc, path, text)?),
-        Rule::Order => ordered(rt, path, text),
-        Rule::Run => Ok(known(alloc, is_run_in_order(alloc, text)?)),
-        _ => Ok(known(alloc, prints_back(alloc, text))),
+        Rule::Kept => Ok(check_of_runs(alloc, path, text)?),
+        Rule::Order => check_of_order(rt, path, text),
+        Rule::Run => Ok(check_known(alloc, is_run_in_order(alloc, text)?)),
+        _ => Ok(check_known(alloc, prints_back(alloc, text))),
     }
 }
 
