@@ -1,9 +1,9 @@
 //! Command lines, performed.
 
 use commands::perform::perform;
-use commands::{Audience, error_text};
 use devices::{Device, Disk};
 use inputs::CommandError;
+use standard_error::{Audience, error_text};
 use std::alloc::{AllocError, Global};
 use std::io;
 use std::io::{ErrorKind, Write};

@@ -1,4 +1,2 @@
 pub mod Printed
-pub mod Asking
 pub mod Given
-pub mod Merging

@@ -18,7 +18,7 @@ use Rattle.inputs.specs.Refusal.{IsFailure}
 use Rattle.commands.specs.Complete.{IsCompletedInput}
 use Rattle.commands.specs.Judge.{IsFileAnswer, IsLongFileAnswer, IsVerified, IsVerifyStop}
 use Rattle.commands.specs.Make.{IsMakeAnswer, IsMakeStop}
-use Rattle.commands.specs.Merge.{IsMerged, IsMergeStop}
+use Rattle.merging.specs.Merge.{IsMerged, IsMergeStop}
 use Rattle.commands.specs.Outcomes.{IsOutcomes, IsOutcomesStop, question_names}
 use Rattle.commands.specs.Render.{IsRendered, IsRenderingStop}
 use Rattle.commands.specs.Replay.{IsReplayedInput, IsReplayStop}

@@ -7,7 +7,6 @@ pub mod Perform
 pub mod Run
 pub mod Render
 pub mod Survey
-pub mod Merge
 pub mod Outcomes
 pub mod Complete
 pub mod Make

@@ -1,7 +1,7 @@
 use Rattle.std.proofs.Common.{◌∷◌, []}
 use Rattle.std.specs.Prelude.{string_bytes}
 use Rattle.commands.specs.Outcomes.{question_names}
-use Rattle.commands.proofs.Asking.{reads_then, stopped_again}
+use Rattle.inputs.proofs.Asking.{reads_then, stopped_again}
 use Rattle.commands.proofs.outcomes_command.outcomes_command.Goals as goal
 
 pub returns-in_err-program-clause-reads : goal.returns-in_err-program-clause-reads

@@ -13,7 +13,7 @@ use Rattle.inputs.specs.declared.command_stop.CommandStop.TheVariants.{Failed, R
 use Rattle.inputs.specs.Inputs.{ReadsNamed}
 use Rattle.verdicts.specs.declared.printed.Answer.{Answer}
 use Rattle.commands.specs.Make.{IsMakeStop}
-use Rattle.commands.proofs.Asking.{failed_unread, none_read, read_none, refused_unread}
+use Rattle.inputs.proofs.Asking.{failed_unread, none_read, read_none, refused_unread}
 use Rattle.commands.proofs.perform.answer_to.Goals as goal
 
 -- options of trials are those of some entries

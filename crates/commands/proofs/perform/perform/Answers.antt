@@ -1,7 +1,7 @@
 use Rattle.std.proofs.Common.{inl, inr, map, string_bytes}
 use Rattle.std.proofs.lemmas.Result.{IfErr-weaker}
 use Rattle.commands.specs.Perform.{world}
-use Rattle.commands.proofs.Asking.{read_none}
+use Rattle.inputs.proofs.Asking.{read_none}
 use Rattle.commands.proofs.Printed.{output_written, unwritten_more}
 use Rattle.commands.proofs.perform.perform.Goals as goal
 

@@ -2,7 +2,7 @@ use Rattle.std.proofs.Common.{◌∷◌, ◌++◌, [], ℕ, List}
 use Rattle.std.specs.Prelude.{option_map, string_bytes}
 use Rattle.command_line.specs.declared.options.ExplainOptions.{ExplainOptions}
 use Rattle.commands.specs.Command.{maybe_name}
-use Rattle.commands.proofs.Asking.{memory_stopped, read_then, reads_then, stopped_again, stopped_last}
+use Rattle.inputs.proofs.Asking.{memory_stopped, read_then, reads_then, stopped_again, stopped_last}
 use Rattle.commands.proofs.render_command.render_command.Goals as goal
 
 -- the names of the recording, of the program and of the labels

@@ -1,7 +1,7 @@
 use Rattle.std.proofs.Common.{◌≡◌, ◌∷◌, [], ap}
 use Rattle.std.specs.Prelude.{option_map, string_bytes}
 use Rattle.commands.specs.Command.{maybe_name, script_name}
-use Rattle.commands.proofs.Asking.{reads_then, stopped_again}
+use Rattle.inputs.proofs.Asking.{reads_then, stopped_again}
 use Rattle.commands.proofs.run_command.run_command.Goals as goal
 
 pub returns-in_err-program-clause-reads : goal.returns-in_err-program-clause-reads

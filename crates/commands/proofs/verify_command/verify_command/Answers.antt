@@ -1,7 +1,7 @@
 use Rattle.std.proofs.Common.{◌∷◌, []}
 use Rattle.std.specs.Prelude.{string_bytes}
 use Rattle.inputs.specs.declared.command_stop.CommandStop.TheVariants.{Failed}
-use Rattle.commands.proofs.Asking.{memory_stopped, read_then, reads_then, stopped_again}
+use Rattle.inputs.proofs.Asking.{memory_stopped, read_then, reads_then, stopped_again}
 use Rattle.commands.proofs.verify_command.verify_command.Goals as goal
 
 pub returns-in_err-recording-clause-reads : goal.returns-in_err-recording-clause-reads

@@ -18,7 +18,7 @@ pub enum Audience {
 }
 
 /// Whether words ask that a refusal or an error is explained: `--words`, before `--`.
-pub fn asks_for_words(words: &[String]) -> bool {
+fn asks_for_words(words: &[String]) -> bool {
     for word in words {
         if word.as_str() == "--" {
             return false;

@@ -1,9 +1,9 @@
 use Rattle.std.proofs.Common.{◌∙◌, ℕ, List, Vec, Global, ap, arith, false, length, map, sym, true}
 use Rattle.std.specs.Prelude.{string_bytes}
 use Rattle.std.proofs.lemmas.List.{length-map}
-use Rattle.commands.specs.Merge.{is_headed}
-use Rattle.commands.proofs.Merging.{answered, stopped, zip_length}
-use Rattle.commands.proofs.merge_command.merge_command.Goals as goal
+use Rattle.merging.specs.Merge.{is_headed}
+use Rattle.merging.proofs.Merging.{answered, stopped, zip_length}
+use Rattle.merging.proofs.merge_command.merge_command.Goals as goal
 
 pub returns-then-is_headed-clause-ok : goal.returns-then-is_headed-clause-ok
 returns-then-is_headed-clause-ok g c =

@@ -9,8 +9,8 @@ use Rattle.inputs.specs.declared.command_stop.CommandStop.{CommandStop}
 use Rattle.inputs.specs.declared.command_stop.CommandStop.TheVariants.{Refused, Failed}
 use Rattle.inputs.specs.Inputs.{AreBytesOf, Inputs}
 use Rattle.verdicts.specs.declared.printed.Answer.{Answer}
-use Rattle.commands.specs.Merge.{AreRefused, IsAnswerOfTexts, IsErrorAmong, IsMerged, IsMergeStop, IsTextsStop}
-use Rattle.commands.specs.Merge.{gaps_of, is_headed}
+use Rattle.merging.specs.Merge.{AreRefused, IsAnswerOfTexts, IsErrorAmong, IsMerged, IsMergeStop, IsTextsStop}
+use Rattle.merging.specs.Merge.{gaps_of, is_headed}
 
 -- the lists are as long
 pub zip_length : {A B : Type 0} (R : A → B → Type 0) (xs : List A) (ys : List B) → AllZip R xs ys

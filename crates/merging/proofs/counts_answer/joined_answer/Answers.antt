@@ -1,8 +1,8 @@
 use Rattle.std.proofs.Common.{◌∙◌, ◌++◌, ℕ, List, ap, refl, subst}
 use Rattle.ledger.specs.declared.text_kind.Kind.{Kind}
 use Rattle.headers.specs.Headers.{header_line}
-use Rattle.commands.specs.Merge.{IsMergedAnswer, missing_line}
-use Rattle.commands.proofs.merge_command.joined_answer.Goals as goal
+use Rattle.merging.specs.Merge.{IsMergedAnswer, missing_line}
+use Rattle.merging.proofs.counts_answer.joined_answer.Goals as goal
 
 pub returns : goal.returns
 returns c =

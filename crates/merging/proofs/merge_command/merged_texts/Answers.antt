@@ -8,8 +8,8 @@ use Rattle.ledger.specs.Merges.{IsMerge}
 use Rattle.ledger.specs.TextOf.{HasTextOf}
 use Rattle.ledger.proofs.TextOfLemmas.{ledger_tells, one_text}
 use Rattle.verdicts.specs.declared.printed.Answer.{Answer}
-use Rattle.commands.specs.Merge.{IsMergeAnswer, IsMergedAnswer}
-use Rattle.commands.proofs.merge_command.merged_texts.Goals as goal
+use Rattle.merging.specs.Merge.{IsMergeAnswer, IsMergedAnswer}
+use Rattle.merging.proofs.merge_command.merged_texts.Goals as goal
 
 -- the answer to a ledger is that to another which says the same
 same_answer : (kind : Kind) (codes : List ℕ) (l m : Ledger) (answer : Answer) → HasTextOf kind codes l
