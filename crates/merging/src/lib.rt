@@ -2,7 +2,7 @@
 #![tactic(auto)]
 
 mod counts_answer;
-mod merge_command;
+mod files;
 mod refusal_lines;
 
-pub use merge_command::merge_command;
+pub use files::merge_command;

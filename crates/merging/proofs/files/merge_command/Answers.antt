@@ -3,7 +3,7 @@ use Rattle.std.specs.Prelude.{string_bytes}
 use Rattle.std.proofs.lemmas.List.{length-map}
 use Rattle.merging.specs.Merge.{is_headed}
 use Rattle.merging.proofs.Merging.{answered, stopped, zip_length}
-use Rattle.merging.proofs.merge_command.merge_command.Goals as goal
+use Rattle.merging.proofs.files.merge_command.Goals as goal
 
 pub returns-then-is_headed-clause-ok : goal.returns-then-is_headed-clause-ok
 returns-then-is_headed-clause-ok g c =

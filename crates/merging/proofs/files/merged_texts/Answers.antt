@@ -9,7 +9,7 @@ use Rattle.ledger.specs.TextOf.{HasTextOf}
 use Rattle.ledger.proofs.TextOfLemmas.{ledger_tells, one_text}
 use Rattle.verdicts.specs.declared.printed.Answer.{Answer}
 use Rattle.merging.specs.Merge.{IsMergeAnswer, IsMergedAnswer}
-use Rattle.merging.proofs.merge_command.merged_texts.Goals as goal
+use Rattle.merging.proofs.files.merged_texts.Goals as goal
 
 -- the answer to a ledger is that to another which says the same
 same_answer : (kind : Kind) (codes : List ℕ) (l m : Ledger) (answer : Answer) → HasTextOf kind codes l

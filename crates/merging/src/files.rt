@@ -1,4 +1,4 @@
-//! The command `merge`.
+//! Files of counts, added up.
 ghost use Rattle.std.specs.Prelude.{◌≡◌, ◌<◌, IfErr, IfOk, false, length, map, string_bytes, true};
 ghost use Rattle.std.specs.List.{AllZip};
 ghost use Rattle.inputs.specs.Inputs.{AreBytesOf, ReadsNamed};

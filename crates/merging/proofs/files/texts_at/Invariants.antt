@@ -2,7 +2,7 @@ use Rattle.std.proofs.Common.{◌≡◌, map, take}
 use Rattle.std.specs.List.{AllZip}
 use Rattle.std.specs.Prelude.{string_bytes}
 use Rattle.inputs.specs.Inputs.{AreBytesOf, AreRead}
-use Rattle.merging.proofs.merge_command.texts_at.Given as goal
+use Rattle.merging.proofs.files.texts_at.Given as goal
 
 abbrev pub invariant-loop-i : goal.invariant-loop-i
 invariant-loop-i g l = record {

@@ -8,7 +8,7 @@ use Rattle.inputs.specs.Inputs.{AreBytesOf, AreRead, AreStopped, Inputs, IsInput
 use Rattle.std.specs.List.{AllZip}
 use Rattle.inputs.proofs.Asking.{name_at, names_more, names_whole, read_none, read_then, stopped_after}
 use Rattle.inputs.proofs.Asking.{stopped_before}
-use Rattle.merging.proofs.merge_command.texts_at.Goals as goal
+use Rattle.merging.proofs.files.texts_at.Goals as goal
 
 -- one more of each list
 zip_more : {A B : Type 0} (R : A → B → Type 0) (xs : List A) (ys : List B) (x : A) (y : B) → AllZip R xs ys → R x y
