@@ -3,10 +3,3 @@ pub mod Reduced
 pub mod LongReduced
 pub mod Campaign
 pub mod Survey
-pub mod Outcomes
-pub mod LogAnswer
-pub mod Circles
-pub mod Part
-pub mod Completion
-pub mod Why
-pub mod Cycles

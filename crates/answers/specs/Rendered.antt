@@ -19,12 +19,14 @@ use Rattle.drawing.specs.Drawing.{IsDrawing}
 use Rattle.verdicts.specs.declared.printed.Answer.{Answer}
 use Rattle.verdicts.specs.VerdictAnswer.{outcome_of}
 use Rattle.answers.specs.declared.rendering.Rendering.{Rendering}
-use Rattle.answers.specs.declared.rendering.Rendering.TheVariants.{Words, Picture, WholePicture, Reduction}
+use Rattle.answers.specs.declared.rendering.Rendering.TheVariants.{Told, Reduction}
+use Rattle.answers.specs.declared.rendering.Telling.{Telling}
+use Rattle.answers.specs.declared.rendering.Telling.TheVariants.{Words, Picture, WholePicture}
 use Rattle.answers.specs.LongReduced.{IsLongReducedAnswer}
 use Rattle.answers.specs.Reduced.{IsReducedAnswer}
 
 -- which picture is drawn: of all events, or of those alone that its verdict needs
-abbrev pub picture_form : Bool → Rendering
+abbrev pub picture_form : Bool → Telling
 picture_form all = if all then WholePicture else Picture
 
 -- the text is a picture of all events of a recording
@@ -77,13 +79,15 @@ pub record IsRendering (tells : Verdict → List ℕ → Type 0) (x : Execution)
   pub outcome : answer.outcome ≡ outcome_of verdict
   pub told : tells verdict answer.text.items
 
+-- the text tells the verdict in this way
+abbrev pub Tells : Telling → Execution → Names → Verdict → List ℕ → Type 0
+Tells Words x names v text = IsExplanation x names (without_labels v) text
+Tells Picture x names v text = IsPicture x names v text
+Tells WholePicture x names v text = IsWholeDrawing x names (without_labels v) text
+
 -- the rendering of a recording, with the names of its program, if that is given, and the labels of its events
 abbrev pub IsRenderedAnswer : Rendering → Execution → Option Parts → List (List ℕ) → Answer → Type 0
-IsRenderedAnswer Words x p labels answer =
-    IsRendering (λ v. IsExplanation x (names_of p labels) (without_labels v)) x answer
-IsRenderedAnswer Picture x p labels answer = IsRendering (IsPicture x (names_of p labels)) x answer
-IsRenderedAnswer WholePicture x p labels answer =
-    IsRendering (λ v. IsWholeDrawing x (names_of p labels) (without_labels v)) x answer
+IsRenderedAnswer (Told telling) x p labels answer = IsRendering (Tells telling x (names_of p labels)) x answer
 IsRenderedAnswer Reduction x p labels answer = IsReducedAnswer x p labels answer
 
 -- a text that says what is answered to a recording of any length, and the outcome
@@ -93,9 +97,14 @@ pub record IsLongRendering (tells : LongAnswer → List ℕ → Type 0) (x : Exe
   pub outcome : answer.outcome ≡ long_outcome found
   pub told : tells found answer.text.items
 
+-- the text tells in this way what is answered to a recording of any length
+abbrev pub TellsLong : Telling → Execution → Names → LongAnswer → List ℕ → Type 0
+TellsLong Words x names a text = IsExplanation x names a text
+TellsLong Picture x names a text = IsLongPicture x names a text
+TellsLong WholePicture x names a text = IsWholeDrawing x names a text
+
 -- the rendering of a recording of any length, with the labels of its events
 abbrev pub IsLongRenderedAnswer : Rendering → Execution → List (List ℕ) → Answer → Type 0
-IsLongRenderedAnswer Words x labels answer = IsLongRendering (IsExplanation x (names_of None labels)) x answer
-IsLongRenderedAnswer Picture x labels answer = IsLongRendering (IsLongPicture x (names_of None labels)) x answer
-IsLongRenderedAnswer WholePicture x labels answer = IsLongRendering (IsWholeDrawing x (names_of None labels)) x answer
+IsLongRenderedAnswer (Told telling) x labels answer =
+    IsLongRendering (TellsLong telling x (names_of None labels)) x answer
 IsLongRenderedAnswer Reduction x labels answer = IsLongReducedAnswer x labels answer

@@ -19,7 +19,10 @@ use std::alloc::Global;
 use verdicts::Answer;
 
 /// What is answered to a recording of any length.
-pub(crate) fn answered(alloc: Global, recording: &Recording) -> Result<LongAnswer, OutOfMemory>
+pub(crate) fn long_answer_to(
+    alloc: Global,
+    recording: &Recording,
+) -> Result<LongAnswer, OutOfMemory>
     ensures { IfOk result (IsLongAnswer recording.now) }
 {
     let places = Places::of(alloc, recording)?;

@@ -85,8 +85,9 @@ pub(crate) fn heading_of(
     Ok(out)
 }
 
-/// A program, an empty line, and the line of its recording with the verdict on it, after a text.
-pub(crate) fn append_verdict(
+/// A program, an empty line, and the line of its recording with the verdict on it, after a text. Fails only if out of
+/// memory.
+pub fn append_verdict(
     alloc: Global,
     mut text: Vec<u8>,
     program: &Program,

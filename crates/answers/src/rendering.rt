@@ -4,14 +4,13 @@ ghost use Rattle.std.specs.Prelude.{◌≡◌, IfOk, IfSome, option_map};
 ghost use Rattle.recording.specs.Recording.{IsShortRecording};
 ghost use Rattle.verdicts.specs.Judgement.{IsVerdict};
 ghost use Rattle.verdicts.specs.Verified.{Verifies};
-ghost use Rattle.long.specs.Answer.{IsLongAnswer, IsWitness, without_labels};
+ghost use Rattle.long.specs.Answer.{IsLongAnswer, IsWitness};
 ghost use Rattle.answers.specs.Rendered.{IsLongPicture, IsLongRenderedAnswer, IsPicture, IsRenderedAnswer};
-ghost use Rattle.answers.specs.Rendered.{IsLongRendering, IsRendering, IsWholeDrawing, addresses_of, names_of};
-ghost use Rattle.answers.specs.Rendered.{picture_form};
-ghost use Rattle.explanation.specs.Explanation.{IsExplanation};
+ghost use Rattle.answers.specs.Rendered.{IsLongRendering, IsRendering, IsWholeDrawing, Tells, TellsLong};
+ghost use Rattle.answers.specs.Rendered.{addresses_of, names_of, picture_form};
 ghost use Rattle.program_events.specs.ProgramOf.{IsProgramOf};
 
-use crate::long_answers::{answered, long_reduced_answer};
+use crate::long_answers::{long_answer_to, long_reduced_answer};
 use crate::reduced::reduced_answer;
 use common::{EventId, OutOfMemory};
 use drawing::drawing_text;
@@ -26,28 +25,35 @@ use reduction::{Reduced, reduce, reduce_long};
 use std::alloc::Global;
 use verdicts::{Answer, outcome_of};
 
-/// How a recording is rendered.
+/// How a verdict is told.
 #[derive(Clone, Copy, PartialEq, Eq)]
-pub enum Rendering {
-    /// Its verdict in words, as `explanation_text` has them.
+pub enum Telling {
+    /// In words, as `explanation_text` has it.
     Words,
-    /// Its verdict as a directed graph, as `drawing_text` has it: of an overlook or a cycle the events alone that it
-    /// needs, as `reduce` keeps them.
+    /// As a directed graph, as `drawing_text` has it: of an overlook or a cycle the events alone that it needs, as
+    /// `reduce` keeps them.
     Picture,
     /// The same of all events.
     WholePicture,
+}
+
+/// How a recording is rendered.
+#[derive(Clone, Copy, PartialEq, Eq)]
+pub enum Rendering {
+    /// Its verdict is told.
+    Told(Telling),
     /// What is left of a violation, as `reduced_answer` has it.
     Reduction,
 }
 
 /// Which picture is drawn: of all events, or of those alone that an overlook or a cycle needs.
-pub fn picture_form(all: bool) -> Rendering
+pub fn picture_form(all: bool) -> Telling
     ensures { result ≡ picture_form all }
 {
     if all {
-        Rendering::WholePicture
+        Telling::WholePicture
     } else {
-        Rendering::Picture
+        Telling::Picture
     }
 }
 
@@ -107,7 +113,7 @@ fn long_picture_text(
 {
     match reduce_long(alloc, recording, answer)? {
         Some(reduced) => {
-            let left = answered(alloc, &reduced.recording)?;
+            let left = long_answer_to(alloc, &reduced.recording)?;
             let text = drawing_text(
                 alloc,
                 recording,
@@ -122,85 +128,71 @@ fn long_picture_text(
     }
 }
 
-/// The verdict on a recording in words, with these names.
-fn explained_answer(
+/// A verdict as it is told, with these names.
+fn told_text(
     alloc: Global,
+    telling: Telling,
+    recording: &Recording,
+    names: &Names,
+    verdict: Verdict,
+) -> Result<Vec<u8>, OutOfMemory>
+    requires short { IsShortRecording recording.now }
+    requires found { IsVerdict recording.now verdict }
+    requires verified { Verifies recording.now verdict }
+    ensures { IfOk result (λ text. Tells telling recording.now names.now verdict text.items) }
+{
+    match telling {
+        Telling::Words => explanation_text(alloc, recording, names, &without_labels(verdict)),
+        Telling::Picture => picture_text(alloc, recording, names, verdict),
+        Telling::WholePicture => whole_drawing(alloc, recording, names, &without_labels(verdict)),
+    }
+}
+
+/// The verdict on a recording as it is told, with these names.
+fn told_answer(
+    alloc: Global,
+    telling: Telling,
     recording: &Recording,
     names: &Names,
 ) -> Result<Answer, OutOfMemory>
     requires { IsShortRecording recording.now }
-    ensures { IfOk result (IsRendering (λ v. IsExplanation recording.now names.now (without_labels v)) recording.now) }
+    ensures { IfOk result (IsRendering (Tells telling recording.now names.now) recording.now) }
 {
     let verdict = judge_alone(alloc, recording)?;
     let outcome = outcome_of(&verdict);
-    let text = explanation_text(alloc, recording, names, &without_labels(verdict))?;
+    let text = told_text(alloc, telling, recording, names, verdict)?;
     Ok(Answer { outcome, text })
 }
 
-/// The verdict on a recording as a picture of the events that it needs, with these names.
-fn drawn_answer(alloc: Global, recording: &Recording, names: &Names) -> Result<Answer, OutOfMemory>
-    requires { IsShortRecording recording.now }
-    ensures { IfOk result (IsRendering (IsPicture recording.now names.now) recording.now) }
-{
-    let verdict = judge_alone(alloc, recording)?;
-    let outcome = outcome_of(&verdict);
-    let text = picture_text(alloc, recording, names, verdict)?;
-    Ok(Answer { outcome, text })
-}
-
-/// The verdict on a recording as a picture of all its events, with these names.
-fn wholly_drawn_answer(
+/// What is answered to a recording of any length as it is told, with these names.
+fn long_told_text(
     alloc: Global,
+    telling: Telling,
+    recording: &Recording,
+    names: &Names,
+    answer: &LongAnswer,
+) -> Result<Vec<u8>, OutOfMemory>
+    requires { IsLongAnswer recording.now answer.now }
+    ensures { IfOk result (λ text. TellsLong telling recording.now names.now answer.now text.items) }
+{
+    match telling {
+        Telling::Words => explanation_text(alloc, recording, names, answer),
+        Telling::Picture => long_picture_text(alloc, recording, names, answer),
+        Telling::WholePicture => whole_drawing(alloc, recording, names, answer),
+    }
+}
+
+/// The answer to a recording of any length as it is told, with these names.
+fn long_told_answer(
+    alloc: Global,
+    telling: Telling,
     recording: &Recording,
     names: &Names,
 ) -> Result<Answer, OutOfMemory>
-    requires { IsShortRecording recording.now }
-    ensures { IfOk result (IsRendering (λ v. IsWholeDrawing recording.now names.now (without_labels v)) recording.now) }
+    ensures { IfOk result (IsLongRendering (TellsLong telling recording.now names.now) recording.now) }
 {
-    let verdict = judge_alone(alloc, recording)?;
-    let outcome = outcome_of(&verdict);
-    let text = whole_drawing(alloc, recording, names, &without_labels(verdict))?;
-    Ok(Answer { outcome, text })
-}
-
-/// What is answered to a recording of any length in words, with these names.
-fn explained_long_answer(
-    alloc: Global,
-    recording: &Recording,
-    names: &Names,
-) -> Result<Answer, OutOfMemory>
-    ensures { IfOk result (IsLongRendering (IsExplanation recording.now names.now) recording.now) }
-{
-    let answer = answered(alloc, recording)?;
-    let text = explanation_text(alloc, recording, names, &answer)?;
-    let outcome = long_outcome(&answer);
-    Ok(Answer { outcome, text })
-}
-
-/// What is answered to a recording of any length as a picture of the events that it needs, with these names.
-fn drawn_long_answer(
-    alloc: Global,
-    recording: &Recording,
-    names: &Names,
-) -> Result<Answer, OutOfMemory>
-    ensures { IfOk result (IsLongRendering (IsLongPicture recording.now names.now) recording.now) }
-{
-    let answer = answered(alloc, recording)?;
-    let text = long_picture_text(alloc, recording, names, &answer)?;
-    let outcome = long_outcome(&answer);
-    Ok(Answer { outcome, text })
-}
-
-/// What is answered to a recording of any length as a picture of all its events, with these names.
-fn wholly_drawn_long_answer(
-    alloc: Global,
-    recording: &Recording,
-    names: &Names,
-) -> Result<Answer, OutOfMemory>
-    ensures { IfOk result (IsLongRendering (IsWholeDrawing recording.now names.now) recording.now) }
-{
-    let answer = answered(alloc, recording)?;
-    let text = whole_drawing(alloc, recording, names, &answer)?;
+    let answer = long_answer_to(alloc, recording)?;
+    let text = long_told_text(alloc, telling, recording, names, &answer)?;
     let outcome = long_outcome(&answer);
     Ok(Answer { outcome, text })
 }
@@ -238,17 +230,9 @@ pub fn rendered_answer(
         (IsRenderedAnswer rendering recording.now (option_map (λ p. p.now) program.entry) labels) }
 {
     match rendering {
-        Rendering::Words => {
+        Rendering::Told(telling) => {
             let names = names_of(alloc, program, labels)?;
-            explained_answer(alloc, recording, &names)
-        }
-        Rendering::Picture => {
-            let names = names_of(alloc, program, labels)?;
-            drawn_answer(alloc, recording, &names)
-        }
-        Rendering::WholePicture => {
-            let names = names_of(alloc, program, labels)?;
-            wholly_drawn_answer(alloc, recording, &names)
+            told_answer(alloc, telling, recording, &names)
         }
         Rendering::Reduction => reduced_answer(alloc, recording, program, &labels),
     }
@@ -266,17 +250,9 @@ pub fn long_rendered_answer(
     ensures { IfOk result (IsLongRenderedAnswer rendering recording.now labels) }
 {
     match rendering {
-        Rendering::Words => {
+        Rendering::Told(telling) => {
             let names = names_of(alloc, None, labels)?;
-            explained_long_answer(alloc, recording, &names)
-        }
-        Rendering::Picture => {
-            let names = names_of(alloc, None, labels)?;
-            drawn_long_answer(alloc, recording, &names)
-        }
-        Rendering::WholePicture => {
-            let names = names_of(alloc, None, labels)?;
-            wholly_drawn_long_answer(alloc, recording, &names)
+            long_told_answer(alloc, telling, recording, &names)
         }
         Rendering::Reduction => long_reduced_answer(alloc, recording, &labels),
     }

@@ -6,7 +6,7 @@ ghost use Rattle.command_line.specs.Entries.{AreEntries};
 ghost use Rattle.command_line.specs.Options.{AreCountsAsked};
 ghost use Rattle.command_line.specs.Refusals.{counts_refusal};
 
-use crate::limited::{limited, maybe_limited};
+use crate::limited::{maybe_limited, number_within};
 use crate::options::{CYCLES, FROM, LINES, OptionRefusal, RUNS, STATES};
 use clap::ArgMatches;
 
@@ -26,10 +26,10 @@ pub fn read_counts(matches: &ArgMatches<'_>) -> Result<Counts, OptionRefusal>
     ensures ok { IfOk result (λ n. AreCountsAsked n (rows_of (found_of matches.now))) }
     ensures err { result_err result ≡ counts_refusal (rows_of (found_of matches.now)) }
 {
-    let states = limited(matches, "states", STATES)?;
+    let states = number_within(matches, "states", STATES)?;
     let runs = maybe_limited(matches, "runs", RUNS)?;
     let cycles = maybe_limited(matches, "cycles", CYCLES)?;
-    let from = limited(matches, "from", FROM)?;
+    let from = number_within(matches, "from", FROM)?;
     let lines = maybe_limited(matches, "lines", LINES)?;
     Ok(Counts {
         states,

@@ -12,7 +12,11 @@ use clap::ArgMatches;
 use program::is_outside;
 
 /// The number of an option, where it is within its limits.
-pub fn limited(matches: &ArgMatches<'_>, id: &str, limits: Limits) -> Result<usize, OptionRefusal>
+pub fn number_within(
+    matches: &ArgMatches<'_>,
+    id: &str,
+    limits: Limits,
+) -> Result<usize, OptionRefusal>
     requires { HasNumber id.now (rows_of (found_of matches.now)) }
     ensures ok { IfOk result (IsNumber id.now limits (rows_of (found_of matches.now))) }
     ensures err { result_err result ≡ number_refusal id.now limits (rows_of (found_of matches.now)) }
@@ -34,7 +38,7 @@ pub fn maybe_limited(
     ensures ok { IfOk result (λ n. MayBeNumber id.now limits n (rows_of (found_of matches.now))) }
     ensures err { result_err result ≡ number_refusal id.now limits (rows_of (found_of matches.now)) }
 {
-    let asked = limited(matches, id, limits)?;
+    let asked = number_within(matches, id, limits)?;
     match number(matches, id) {
         Some(_) => Ok(Some(asked)),
         None => Ok(None),

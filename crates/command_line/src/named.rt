@@ -8,7 +8,7 @@ ghost use Rattle.command_line.specs.Options.{AreValuesAsked, IsCompletionAsked, 
 ghost use Rattle.command_line.specs.Refusals.{refusal_of};
 
 use crate::entries::maybe_texts;
-use crate::names::{given, joined, maybe_given};
+use crate::names::{joined_names, maybe_given, name_given};
 use crate::options::{
     CompleteOptions, DrawOptions, ExplainOptions, FileOptions, JudgeOptions, LiveOptions,
     MakeOptions, MergeOptions, Options, OutcomesOptions, Question, RunOptions, SurveyOptions,
@@ -32,7 +32,7 @@ fn size_asked(values: &Values) -> RecordingSize
 }
 
 /// The recording, the program that may name its addresses, and the labels that its events may have.
-fn recorded(
+fn recording_options(
     alloc: Global,
     matches: &ArgMatches<'_>,
     values: &Values,
@@ -42,7 +42,7 @@ fn recorded(
     ensures { IfOk result (λ o. AreExplainOptions o (rows_of (found_of matches.now))) }
 {
     Ok(ExplainOptions {
-        file: given(alloc, matches, "FILE")?,
+        file: name_given(alloc, matches, "FILE")?,
         size: size_asked(values),
         program: maybe_given(alloc, matches, "program")?,
         labels: maybe_given(alloc, matches, "labels")?,
@@ -88,7 +88,7 @@ fn run_options(
     ensures { IfOk result (λ o. AreOptionsOf o (codes "run") (rows_of (found_of matches.now))) }
 {
     Ok(Options::Run(RunOptions {
-        program: given(alloc, matches, "PROGRAM")?,
+        program: name_given(alloc, matches, "PROGRAM")?,
         steps: maybe_given(alloc, matches, "steps")?,
         seed: values.seed,
         attempts: values.attempts,
@@ -121,7 +121,7 @@ fn survey_options(
     ensures { IfOk result (λ o. AreOptionsOf o (codes "survey") (rows_of (found_of matches.now))) }
 {
     Ok(Options::Survey(SurveyOptions {
-        file: given(alloc, matches, "FILE")?,
+        file: name_given(alloc, matches, "FILE")?,
         each: values.flags.each,
         show: values.show,
         reduce: values.flags.reduce,
@@ -197,7 +197,7 @@ fn outcomes_options(
     requires values { AreValuesAsked values.now (rows_of (found_of matches.now)) }
     ensures { IfOk result (λ o. AreOptionsOf o (codes "outcomes") (rows_of (found_of matches.now))) }
 {
-    let program = given(alloc, matches, "PROGRAM")?;
+    let program = name_given(alloc, matches, "PROGRAM")?;
     let question = question(alloc, matches, values)?;
     Ok(Options::Outcomes(OutcomesOptions {
         program,
@@ -221,7 +221,7 @@ fn make_options(
             forbidden: values.flags.forbidden,
         }));
     }
-    let words = joined(alloc, matches, "WORD")?;
+    let words = joined_names(alloc, matches, "WORD")?;
     Ok(Options::Make(MakeOptions::Cycle(words)))
 }
 
@@ -235,7 +235,7 @@ fn judge_options(
     requires values { AreValuesAsked values.now (rows_of (found_of matches.now)) }
     ensures { IfOk result (λ o. AreOptionsOf o (codes "judge") (rows_of (found_of matches.now))) }
 {
-    let file = given(alloc, matches, "FILE")?;
+    let file = name_given(alloc, matches, "FILE")?;
     if values.flags.long {
         return Ok(Options::JudgeLong(FileOptions { file }));
     }
@@ -272,7 +272,7 @@ fn live_options(
     ensures { IfOk result (λ o. AreOptionsOf o (codes "live") (rows_of (found_of matches.now))) }
 {
     Ok(Options::Live(LiveOptions {
-        program: given(alloc, matches, "PROGRAM")?,
+        program: name_given(alloc, matches, "PROGRAM")?,
         buffer: values.buffer,
         limit: values.limit,
         runs: values.counts.runs,
@@ -285,7 +285,7 @@ fn replay_options(alloc: Global, matches: &ArgMatches<'_>) -> Result<Options, Al
     ensures { IfOk result (λ o. AreOptionsOf o (codes "replay") (rows_of (found_of matches.now))) }
 {
     Ok(Options::Replay(FileOptions {
-        file: given(alloc, matches, "FILE")?,
+        file: name_given(alloc, matches, "FILE")?,
     }))
 }
 
@@ -299,7 +299,7 @@ fn explain_options(
     requires values { AreValuesAsked values.now (rows_of (found_of matches.now)) }
     ensures { IfOk result (λ o. AreOptionsOf o (codes "explain") (rows_of (found_of matches.now))) }
 {
-    Ok(Options::Explain(recorded(alloc, matches, values)?))
+    Ok(Options::Explain(recording_options(alloc, matches, values)?))
 }
 
 /// The options of `draw`.
@@ -313,7 +313,7 @@ fn draw_options(
     ensures { IfOk result (λ o. AreOptionsOf o (codes "draw") (rows_of (found_of matches.now))) }
 {
     Ok(Options::Draw(DrawOptions {
-        recording: recorded(alloc, matches, values)?,
+        recording: recording_options(alloc, matches, values)?,
         all: values.flags.all,
     }))
 }
@@ -328,7 +328,7 @@ fn reduce_options(
     requires values { AreValuesAsked values.now (rows_of (found_of matches.now)) }
     ensures { IfOk result (λ o. AreOptionsOf o (codes "reduce") (rows_of (found_of matches.now))) }
 {
-    Ok(Options::Reduce(recorded(alloc, matches, values)?))
+    Ok(Options::Reduce(recording_options(alloc, matches, values)?))
 }
 
 /// The options of `verify`.
@@ -343,8 +343,8 @@ fn verify_options(
     ensures { IfOk result (λ o. AreOptionsOf o (codes "verify") (rows_of (found_of matches.now))) }
 {
     Ok(Options::Verify(VerifyOptions {
-        recording: given(alloc, matches, "RECORDING")?,
-        verdict: given(alloc, matches, "VERDICT")?,
+        recording: name_given(alloc, matches, "RECORDING")?,
+        verdict: name_given(alloc, matches, "VERDICT")?,
         size: size_asked(values),
         workers: values.workers,
     }))
@@ -361,7 +361,7 @@ fn complete_options(
     ensures { IfOk result (λ o. AreOptionsOf o (codes "complete") (rows_of (found_of matches.now))) }
 {
     Ok(Options::Complete(CompleteOptions {
-        file: given(alloc, matches, "FILE")?,
+        file: name_given(alloc, matches, "FILE")?,
         states: values.counts.states,
     }))
 }

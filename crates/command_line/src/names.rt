@@ -8,7 +8,7 @@ use clap::ArgMatches;
 use std::alloc::{AllocError, Global};
 
 /// The name that an argument gives.
-pub fn given(alloc: Global, matches: &ArgMatches<'_>, id: &str) -> Result<String, AllocError>
+pub fn name_given(alloc: Global, matches: &ArgMatches<'_>, id: &str) -> Result<String, AllocError>
     requires { HasText id.now (rows_of (found_of matches.now)) }
     ensures { IfOk result (λ name. first_of id.now (rows_of (found_of matches.now))
         ≡ Some (string_bytes name)) }
@@ -45,7 +45,7 @@ fn join(words: &mut String, text: &str) -> Result<(), AllocError>
 }
 
 /// The texts that an argument gives, with spaces between them.
-pub fn joined(alloc: Global, matches: &ArgMatches<'_>, id: &str) -> Result<String, AllocError>
+pub fn joined_names(alloc: Global, matches: &ArgMatches<'_>, id: &str) -> Result<String, AllocError>
     ensures { IfOk result (λ words. string_bytes words ≡ joined_from [] (names_given id.now (rows_of (found_of
         matches.now)))) }
 {

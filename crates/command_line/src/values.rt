@@ -9,7 +9,7 @@ ghost use Rattle.command_line.specs.Refusals.{fault_refusal, refusal_of, refusal
 use crate::counts::{Counts, read_counts};
 use crate::entries::{maybe_text, number, number_or};
 use crate::flags::{Flags, read_flags};
-use crate::limited::limited;
+use crate::limited::number_within;
 use crate::options::{
     ATTEMPTS, BUFFER, DEFAULT_FAULT, DEFAULT_SEED, LIMIT, OptionRefusal, WORKERS,
 };
@@ -93,10 +93,10 @@ pub fn read_values(matches: &ArgMatches<'_>) -> Result<Values, OptionRefusal>
 {
     let shape = shape(matches)?;
     let part = part(matches)?;
-    let attempts = limited(matches, "attempts", ATTEMPTS)?;
-    let limit = limited(matches, "limit", LIMIT)?;
-    let buffer = limited(matches, "buffer", BUFFER)?;
-    let workers = limited(matches, "workers", WORKERS)?;
+    let attempts = number_within(matches, "attempts", ATTEMPTS)?;
+    let limit = number_within(matches, "limit", LIMIT)?;
+    let buffer = number_within(matches, "buffer", BUFFER)?;
+    let workers = number_within(matches, "workers", WORKERS)?;
     let fault = fault(matches)?;
     let show = show(matches, shape.is_some(), part.trials)?;
     let counts = read_counts(matches)?;

@@ -1,7 +1,7 @@
 -- What options choose, by name.
 use Rattle.std.specs.Prelude.{Bool, if◌then◌else◌}
-use Rattle.answers.specs.declared.made_answers.CycleChoice.{CycleChoice}
-use Rattle.answers.specs.declared.made_answers.CycleChoice.TheVariants.{Each, Forbidden}
+use Rattle.program_answers.specs.declared.made_answers.CycleChoice.{CycleChoice}
+use Rattle.program_answers.specs.declared.made_answers.CycleChoice.TheVariants.{Each, Forbidden}
 use Rattle.answers.specs.declared.reduced.ViolationForm.{ViolationForm}
 use Rattle.answers.specs.declared.reduced.ViolationForm.TheVariants.{Whole, Reduced}
 use Rattle.devices.specs.declared.progress.Visibility.{Visibility}

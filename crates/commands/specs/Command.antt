@@ -7,7 +7,8 @@ use Rattle.command_line.specs.declared.options.Options.TheVariants.{Explain, Dra
 use Rattle.command_line.specs.declared.options.Options.TheVariants.{Reduce, Verify, Survey, Merge, Outcomes, Complete}
 use Rattle.command_line.specs.declared.options.Options.TheVariants.{Make}
 use Rattle.verdicts.specs.declared.printed.Answer.{Answer}
-use Rattle.answers.specs.declared.rendering.Rendering.TheVariants.{Words, Reduction}
+use Rattle.answers.specs.declared.rendering.Rendering.TheVariants.{Told, Reduction}
+use Rattle.answers.specs.declared.rendering.Telling.TheVariants.{Words}
 use Rattle.answers.specs.Rendered.{picture_form}
 use Rattle.inputs.specs.declared.command_stop.CommandStop.{CommandStop}
 use Rattle.inputs.specs.declared.command_stop.CommandStop.TheVariants.{Failed}
@@ -66,8 +67,8 @@ IsAnswerTo inputs (JudgeLong o) answer = IsLongFileAnswer inputs o answer
 IsAnswerTo inputs (Trials o) answer = IsTrials o o.show answer
 IsAnswerTo inputs (Live o) answer = IsLive inputs o answer
 IsAnswerTo inputs (Replay o) answer = IsReplayedInput inputs o answer
-IsAnswerTo inputs (Explain o) answer = IsRendered inputs Words o answer
-IsAnswerTo inputs (Draw o) answer = IsRendered inputs (picture_form o.all) o.recording answer
+IsAnswerTo inputs (Explain o) answer = IsRendered inputs (Told Words) o answer
+IsAnswerTo inputs (Draw o) answer = IsRendered inputs (Told (picture_form o.all)) o.recording answer
 IsAnswerTo inputs (Reduce o) answer = IsRendered inputs Reduction o answer
 IsAnswerTo inputs (Verify o) answer = IsVerified inputs o answer
 IsAnswerTo inputs (Survey o) answer = IsSurveyOf inputs o o.show answer

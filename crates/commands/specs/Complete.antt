@@ -2,7 +2,7 @@
 use Rattle.std.specs.Prelude.{ℕ, List, Option, string_bytes}
 use Rattle.command_line.specs.declared.options.CompleteOptions.{CompleteOptions}
 use Rattle.verdicts.specs.declared.printed.Answer.{Answer}
-use Rattle.answers.specs.Completion.{IsCompletionAnswer}
+use Rattle.program_answers.specs.Completion.{IsCompletionAnswer}
 use Rattle.inputs.specs.Named.{OfValues}
 use Rattle.inputs.specs.Inputs.{Inputs}
 

@@ -8,7 +8,7 @@ use Rattle.cycles.specs.declared.refusal.CycleRefusal.TheVariants.{Word, Open, L
 use Rattle.cycles.specs.Made.{IsMade, IsRefusal}
 use Rattle.verdicts.specs.declared.printed.Answer.{Answer}
 use Rattle.verdicts.specs.VerdictAnswer.{IsVerdictAnswer}
-use Rattle.answers.specs.Cycles.{IsListAnswer}
+use Rattle.program_answers.specs.Cycles.{IsListAnswer}
 use Rattle.answers.specs.Reduced.{shown_text}
 use Rattle.inputs.specs.declared.command_error.CommandError.TheVariants.{OutOfMemory}
 use Rattle.inputs.specs.declared.command_stop.CommandStop.{CommandStop}

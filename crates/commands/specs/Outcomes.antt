@@ -14,12 +14,12 @@ use Rattle.outcome_texts.specs.Log.{log_says}
 use Rattle.outcome_texts.specs.ObservedLine.{condition_of}
 use Rattle.outcome_texts.specs.Seen.{Seen}
 use Rattle.verdicts.specs.declared.printed.Answer.{Answer}
-use Rattle.answers.specs.declared.outcome_answers.Condition.{Condition}
-use Rattle.answers.specs.declared.outcome_answers.Condition.TheVariants as condition
-use Rattle.answers.specs.declared.outcome_answers.Reply.TheVariants.{No}
-use Rattle.answers.specs.LogAnswer.{IsLogAnswer}
-use Rattle.answers.specs.Outcomes.{IsConditionAnswer, IsOutcomesAnswer, IsText, IsUnfinished}
-use Rattle.answers.specs.Outcomes.{condition_text}
+use Rattle.program_answers.specs.declared.outcome_answers.Condition.{Condition}
+use Rattle.program_answers.specs.declared.outcome_answers.Condition.TheVariants as condition
+use Rattle.program_answers.specs.declared.outcome_answers.Reply.TheVariants.{No}
+use Rattle.program_answers.specs.LogAnswer.{IsLogAnswer}
+use Rattle.program_answers.specs.Outcomes.{IsConditionAnswer, IsOutcomesAnswer, IsText, IsUnfinished}
+use Rattle.program_answers.specs.Outcomes.{condition_text}
 use Rattle.recorder.specs.Text.{recording_text}
 use Rattle.recording.specs.Execution.{Execution}
 use Rattle.verdicts.specs.Judgement.{IsOrderedVerdict}

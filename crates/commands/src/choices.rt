@@ -2,9 +2,10 @@
 ghost use Rattle.std.specs.Prelude.{◌≡◌};
 ghost use Rattle.commands.specs.Choices.{cycle_choice, progress_visibility, unseen_form, violation_form};
 
-use answers::{CycleChoice, ViolationForm};
+use answers::ViolationForm;
 use devices::Visibility;
 use outcome_texts::UnseenForm;
+use program_answers::CycleChoice;
 
 /// How a violation is answered, by `--reduce`.
 pub(crate) fn violation_form(reduce: bool) -> ViolationForm

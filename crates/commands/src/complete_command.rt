@@ -4,10 +4,10 @@ ghost use Rattle.inputs.specs.Inputs.{ReadsNamed};
 ghost use Rattle.inputs.specs.Named.{IsValuesStop};
 ghost use Rattle.commands.specs.Complete.{IsCompletedInput};
 
-use answers::completion_answer;
 use command_line::CompleteOptions;
 use devices::Host;
 use inputs::{CommandStop, values_at};
+use program_answers::completion_answer;
 use report::Answer;
 use std::alloc::Global;
 

@@ -9,7 +9,11 @@ use std::alloc::Global;
 use texts::put_text;
 
 /// An answer with counts, after a header where there is one. Fails only if out of memory.
-pub fn headed(alloc: Global, header: Option<Header>, counts: Answer) -> Result<Answer, OutOfMemory>
+pub fn with_header(
+    alloc: Global,
+    header: Option<Header>,
+    counts: Answer,
+) -> Result<Answer, OutOfMemory>
     ensures { IfOk result (IsHeaded header counts) }
 {
     let Some(header) = header else {

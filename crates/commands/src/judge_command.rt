@@ -7,7 +7,7 @@ ghost use Rattle.commands.specs.Judge.{IsFileAnswer};
 use command_line::JudgeOptions;
 use common::{MAX_WORKERS, OpenGate};
 use devices::{Host, MemorySink};
-use inputs::{CommandError, CommandStop, opened};
+use inputs::{CommandError, CommandStop, open_input};
 use report::{Answer, ReportError, answer};
 use std::alloc::Global;
 use std::sync::Wait;
@@ -28,7 +28,7 @@ pub fn judge_command<R: Threads + Wait + Sync, H: Host>(
     ensures reads { ReadsNamed (string_bytes options.now.file ∷ []) (H.log host.old) (H.log host.new) result }
 {
     every_verdict_holds();
-    let mut input = opened(alloc, host, options.file.as_str())?;
+    let mut input = open_input(alloc, host, options.file.as_str())?;
     let mut out = MemorySink::new(alloc);
     let answered = answer(rt, alloc, &mut input, &mut out, options.workers, &OpenGate);
     host.take_back(input);

@@ -12,13 +12,13 @@ use inputs::{CommandError, CommandStop, program_at};
 use live::{LiveError, drive};
 use program::Program;
 use report::Answer;
-use run_answers::{finished, live_histogram_answer};
+use run_answers::{live_histogram_answer, machine_answer};
 use std::alloc::Global;
 use std::sync::Wait;
 use std::thread::Threads;
 
 /// Runs a program by threads, or counts such runs.
-fn lived<R: Threads + Wait + Sync>(
+fn live_answer<R: Threads + Wait + Sync>(
     rt: &R,
     alloc: Global,
     program: Program,
@@ -39,7 +39,7 @@ fn lived<R: Threads + Wait + Sync>(
         }
         None => {
             let traced = drive(rt, alloc, program, buffer, limit, &OpenGate)?;
-            Ok(finished(alloc, traced.into_machine())?)
+            Ok(machine_answer(alloc, traced.into_machine())?)
         }
     }
 }
@@ -56,7 +56,7 @@ pub fn live_command<R: Threads + Wait + Sync, H: Host>(
     ensures reads { ReadsNamed (string_bytes options.now.program ∷ []) (H.log host.old) (H.log host.new) result }
 {
     let program = program_at(alloc, host, options.program.as_str())?;
-    match lived(rt, alloc, program, options) {
+    match live_answer(rt, alloc, program, options) {
         Ok(answer) => Ok(answer),
         Err(LiveError::NoThread) => Err(CommandStop::Failed(CommandError::NoThread)),
         Err(LiveError::Stranger) => Err(CommandStop::Failed(CommandError::Stranger)),

@@ -3,10 +3,10 @@ ghost use Rattle.std.specs.Prelude.{◌≡◌, IfErr, IfOk, string_bytes};
 ghost use Rattle.commands.specs.Make.{IsMakeAnswer, IsMakeStop, cycle_line};
 
 use crate::choices::cycle_choice;
-use answers::{cycles_answer, made_answer};
 use command_line::MakeOptions;
 use cycles::{CycleRefusal, make};
 use inputs::{CommandStop, PrintedRefusal};
+use program_answers::{cycles_answer, made_answer};
 use refusals::{E1, E2, E3, refused_at};
 use report::Answer;
 use std::alloc::{AllocError, Global};

@@ -8,13 +8,13 @@ ghost use Rattle.commands.specs.Outcomes.{question_names};
 
 use crate::choices::unseen_form;
 use crate::shown_outcome::show_answer;
-use answers::{Condition, LogDetails, condition_answer, log_answer, outcomes_answer};
 use command_line::{OutcomesOptions, Question};
 use devices::Host;
 use inputs::{CommandStop, PrintedRefusal, line_refusal, program_at, text_at};
 use outcome_texts::{SeenLine, condition_of, log_says};
 use outcomes::Observation;
 use program::Program;
+use program_answers::{Condition, LogDetails, condition_answer, log_answer, outcomes_answer};
 use refusals::{O1, O2, refused_at};
 use report::Answer;
 use std::alloc::{AllocError, Global};
@@ -62,7 +62,7 @@ fn items_of(alloc: Global, program: &Program, text: &str) -> Result<Vec<Observat
 }
 
 /// Whether a condition holds of a program.
-fn conditioned(
+fn answer_condition(
     alloc: Global,
     program: &Program,
     states: usize,
@@ -77,7 +77,12 @@ fn conditioned(
 }
 
 /// How the first outcome of a program comes about that has what a condition says.
-fn shown(alloc: Global, program: &Program, states: usize, text: &str) -> Result<Answer, CommandStop>
+fn first_outcome_answer(
+    alloc: Global,
+    program: &Program,
+    states: usize,
+    text: &str,
+) -> Result<Answer, CommandStop>
     ensures ok { IfOk result (IsShownOutcome program.now states text.now) }
     ensures err { IfErr result (λ stop. IsConditionStop text.now stop program.now) }
 {
@@ -109,12 +114,12 @@ fn question_answer<H: Host>(
             Ok(log_answer(alloc, program, states, &lines, details)?)
         }
         Question::Exists(items) => {
-            conditioned(alloc, program, states, Condition::Exists, items.as_str())
+            answer_condition(alloc, program, states, Condition::Exists, items.as_str())
         }
         Question::Never(items) => {
-            conditioned(alloc, program, states, Condition::Never, items.as_str())
+            answer_condition(alloc, program, states, Condition::Never, items.as_str())
         }
-        Question::Show(items) => shown(alloc, program, states, items.as_str()),
+        Question::Show(items) => first_outcome_answer(alloc, program, states, items.as_str()),
     }
 }
 

@@ -25,7 +25,7 @@ use crate::survey_command::{each_command, survey_command};
 use crate::trials_command::trials_command;
 use crate::verify_command::verify_command;
 use crate::without_options::without_options;
-use answers::{Rendering, picture_form};
+use answers::{Rendering, Telling, picture_form};
 use command_line::words::options;
 use command_line::{Options, SurveyOptions};
 use devices::{Host, Sink};
@@ -56,9 +56,12 @@ fn answer_to<R: Threads + Wait + Sync, H: Host>(
         Options::Trials(trials) => trials_command(rt, alloc, trials, host),
         Options::Live(live) => live_command(rt, alloc, live, host),
         Options::Replay(replay) => replay_command(alloc, replay, host),
-        Options::Explain(explain) => render_command(alloc, Rendering::Words, explain, host),
+        Options::Explain(explain) => {
+            render_command(alloc, Rendering::Told(Telling::Words), explain, host)
+        }
         Options::Draw(draw) => {
-            render_command(alloc, picture_form(draw.all), &draw.recording, host)
+            let picture = Rendering::Told(picture_form(draw.all));
+            render_command(alloc, picture, &draw.recording, host)
         }
         Options::Reduce(reduce) => render_command(alloc, Rendering::Reduction, reduce, host),
         Options::Verify(verify) => verify_command(rt, alloc, verify, host),

@@ -5,7 +5,7 @@ ghost use Rattle.commands.specs.OptionRefusals.{option_line, option_refusal_name
 use command_line::OptionRefusal;
 use inputs::PrintedRefusal;
 use program::ShapeError;
-use refusals::{K1, K2, K3, K4, K5, K6, K7, K8, K9, K10, K12, K13, K14, K15, K16, refused};
+use refusals::{K1, K2, K3, K4, K5, K6, K7, K8, K9, K10, K12, K13, K14, K15, K16, line_of_name};
 use std::alloc::{AllocError, Global};
 
 /// The name of the refusal of options.
@@ -38,6 +38,6 @@ pub(crate) fn option_refusal(
 ) -> Result<PrintedRefusal, AllocError>
     ensures { IfOk result (λ printed. string_bytes printed.line ≡ option_line refusal) }
 {
-    let line = refused(alloc, option_refusal_name(refusal))?;
+    let line = line_of_name(alloc, option_refusal_name(refusal))?;
     Ok(PrintedRefusal { line, quote: None })
 }

@@ -65,7 +65,7 @@ fn labels_given<H: Host>(
 }
 
 /// The rendering of a recording of a size.
-fn rendered(
+fn render(
     alloc: Global,
     rendering: Rendering,
     size: RecordingSize,
@@ -98,7 +98,7 @@ pub fn render_command<H: Host>(
     let recording = recording_at(alloc, host, options.file.as_str(), options.size)?;
     let program = program_given(alloc, &recording, &options.program, host)?;
     let labels = labels_given(alloc, &recording, &options.labels, host)?;
-    Ok(rendered(
+    Ok(render(
         alloc,
         rendering,
         options.size,

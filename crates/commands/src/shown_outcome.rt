@@ -6,11 +6,11 @@ ghost use Rattle.recording.specs.Tso.{IsTsoOrder};
 ghost use Rattle.commands.specs.Outcomes.{IsReplayedRecording, IsShowAnswer};
 
 use crate::replay_command::replay_of;
-use answers::{Reply, met_answer, unfinished_answer};
 use common::OutOfMemory;
 use judge::judge_alone;
 use outcomes::{Observation, Witness, first_recording};
 use program::Program;
+use program_answers::{Reply, met_answer, unfinished_answer};
 use recorder::write_recording;
 use recording::Recording;
 use report::Answer;

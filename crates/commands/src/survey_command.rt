@@ -9,14 +9,14 @@ ghost use Rattle.commands.specs.Survey.{IsCountsAnswer, IsEachError, IsEachWritt
 ghost use Rattle.commands.specs.Survey.{IsSurveyStop, TellsEach, line_kind, lines_counted, range_of, survey_header};
 
 use crate::choices::{progress_visibility, violation_form};
-use crate::headed::headed;
+use crate::headed::with_header;
 use crate::output::write_output;
 use answers::{CountsPlace, line_answer, survey_answer, values_survey_answer};
 use command_line::SurveyOptions;
 use common::OutOfMemory;
 use devices::{Host, MemorySink, Sink};
 use headers::{Counted, Header};
-use inputs::{CommandError, CommandStop, opened};
+use inputs::{CommandError, CommandStop, open_input};
 use refusals::K11;
 use report::{Answer, Outcome, long_answer};
 use std::alloc::Global;
@@ -49,7 +49,11 @@ fn lines_counted(options: &SurveyOptions) -> Counted
 }
 
 /// What is answered to one recording.
-fn shown(alloc: Global, options: &SurveyOptions, line: &[u8]) -> Result<Answer, OutOfMemory>
+fn answer_to_line(
+    alloc: Global,
+    options: &SurveyOptions,
+    line: &[u8],
+) -> Result<Answer, OutOfMemory>
     ensures { IfOk result (IsShown options.now.long options.now.reduce line.now) }
 {
     if options.long {
@@ -103,7 +107,7 @@ fn survey_header(options: &SurveyOptions) -> Option<Header>
 }
 
 /// Counts the recordings of the named input, and writes the line of each where it is reported.
-fn counted<R: Threads + Wait + Sync, H: Host, W: Sink>(
+fn count_recordings<R: Threads + Wait + Sync, H: Host, W: Sink>(
     rt: &R,
     alloc: Global,
     options: &SurveyOptions,
@@ -119,7 +123,7 @@ fn counted<R: Threads + Wait + Sync, H: Host, W: Sink>(
     ensures writes { FailsBy is_write_failure (W.write_failed out.old) (W.write_failed out.new) result }
     ensures silent { reports ≢ EachLine → out.new ≡ out.old }
 {
-    let input = opened(alloc, host, options.file.as_str())?;
+    let input = open_input(alloc, host, options.file.as_str())?;
     let mut lines = LinesOf::new(input, range_of(options));
     let progress = host.progress(None, progress_visibility(options.quiet));
     let kind = line_kind(options);
@@ -160,7 +164,7 @@ pub fn each_command<R: Threads + Wait + Sync, H: Host, W: Sink>(
     ensures reads { ReadsInput (string_bytes options.now.file) (H.log host.old) (H.log host.new) result }
     ensures writes { FailsBy is_write_failure (W.write_failed out.old) (W.write_failed out.new) result }
 {
-    let ledger = counted(rt, alloc, options, host, out, Reports::EachLine)?;
+    let ledger = count_recordings(rt, alloc, options, host, out, Reports::EachLine)?;
     let counts = counts_answer(alloc, options.complete, &ledger, CountsPlace::AfterLines)?;
     write_output(out, &counts)
 }
@@ -179,12 +183,12 @@ pub fn survey_command<R: Threads + Wait + Sync, H: Host>(
 {
     match options.show {
         Some(k) => {
-            let input = opened(alloc, host, options.file.as_str())?;
+            let input = open_input(alloc, host, options.file.as_str())?;
             let mut lines = LinesOf::new(input, range_of(options));
             let line = line_of(alloc, &mut lines, k);
             host.take_back(lines.into_source());
             match line {
-                Ok(Some(line)) => Ok(shown(alloc, options, line.as_slice())?),
+                Ok(Some(line)) => Ok(answer_to_line(alloc, options, line.as_slice())?),
                 Ok(None) => Err(CommandStop::of_name(alloc, K11.name)),
                 Err(SurveyError::ReadFailed) => Err(CommandStop::Failed(CommandError::ReadFailed)),
                 Err(SurveyError::WriteFailed) => unreachable!(),
@@ -196,9 +200,9 @@ pub fn survey_command<R: Threads + Wait + Sync, H: Host>(
         }
         None => {
             let mut out = MemorySink::new(alloc);
-            let ledger = counted(rt, alloc, options, host, &mut out, Reports::NoLine)?;
+            let ledger = count_recordings(rt, alloc, options, host, &mut out, Reports::NoLine)?;
             let counts = counts_answer(alloc, options.complete, &ledger, CountsPlace::Alone)?;
-            Ok(headed(alloc, survey_header(options), counts)?)
+            Ok(with_header(alloc, survey_header(options), counts)?)
         }
     }
 }

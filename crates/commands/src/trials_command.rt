@@ -7,7 +7,7 @@ ghost use Rattle.inputs.specs.declared.command_stop.CommandStop.TheVariants.{Fai
 ghost use Rattle.commands.specs.Run.{IsTrials, campaign_header};
 
 use crate::choices::{progress_visibility, violation_form};
-use crate::headed::headed;
+use crate::headed::with_header;
 use command_line::TrialsOptions;
 use devices::Host;
 use headers::Header;
@@ -47,7 +47,7 @@ pub fn trials_command<R: Threads + Wait + Sync, H: Host>(
             let visibility = progress_visibility(options.quiet);
             let progress = host.progress(Some(options.campaign.trials()), visibility);
             let counts = campaign_answer(rt, alloc, &options.campaign, options.workers, &progress)?;
-            Ok(headed(alloc, campaign_header(options), counts)?)
+            Ok(with_header(alloc, campaign_header(options), counts)?)
         }
     }
 }

@@ -16,7 +16,7 @@ use std::thread::Threads;
 use verification::{check_answer, long_check_answer};
 
 /// The answer to a text, of a recording of the size that is asked for.
-fn checked<R: Threads + Sync>(
+fn text_answer<R: Threads + Sync>(
     rt: &R,
     alloc: Global,
     options: &VerifyOptions,
@@ -47,5 +47,5 @@ pub fn verify_command<R: Threads + Wait + Sync, H: Host>(
 {
     let recording = recording_at(alloc, host, options.recording.as_str(), options.size)?;
     let text = text_at(alloc, host, options.verdict.as_str())?;
-    Ok(checked(rt, alloc, options, &recording, text.as_slice())?)
+    Ok(text_answer(rt, alloc, options, &recording, text.as_slice())?)
 }

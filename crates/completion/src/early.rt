@@ -14,14 +14,14 @@ use situations::{Row, between, oldest};
 use values::Values;
 
 /// The place of the event that a move of a core performs, if it can be made.
-fn performed(values: &Values, row: &Row, step: Move, core: usize) -> Option<usize>
+fn performed_place(values: &Values, row: &Row, step: Move, core: usize) -> Option<usize>
     ensures { IfSome result (λ j. Performs values.now.cores row.now step core j) }
 {
     let place = row.place(core);
     match step {
         Move::Modify => Some(place),
         Move::Drain => {
-            let from = row.drained(core);
+            let from = row.drained_place(core);
             let waiting = between(values.events(core), from, place);
             if waiting.is_empty() {
                 return None;
@@ -43,7 +43,7 @@ fn is_left(values: &Values, row: &Row, core: usize, place: usize) -> bool
         return false;
     }
     match events[place] {
-        Event::S { .. } => row.drained(core) <= place,
+        Event::S { .. } => row.drained_place(core) <= place,
         Event::L { .. } => row.place(core) <= place,
         Event::R { .. } => row.place(core) <= place,
         Event::C { .. } => row.place(core) <= place,
@@ -89,7 +89,7 @@ fn waits_for_core(values: &Values, pairs: &[BitRow], row: &Row, core: usize, num
     if waits_for(values, pairs, row, core, row.place(core), number) {
         return true;
     }
-    match performed(values, row, Move::Drain, core) {
+    match performed_place(values, row, Move::Drain, core) {
         Some(place) => waits_for(values, pairs, row, core, place, number),
         None => false,
     }
@@ -108,7 +108,7 @@ pub(crate) fn is_early(
     requires forced { AreForced values.now pairs.now }
     ensures { IsTrue result → IsEarly values.now row.now step core }
 {
-    let Some(place) = performed(values, row, step, core) else {
+    let Some(place) = performed_place(values, row, step, core) else {
         return false;
     };
     let number = number_of(values, core, place);

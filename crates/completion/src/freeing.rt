@@ -13,7 +13,7 @@ ghost use Rattle.situations.specs.Waiting.{between, youngest};
 use crate::marks::{mark_at, mark_read, may_read, source_at};
 use common::Addr;
 use recording::Event;
-use situations::{Row, between, forwarded, none_waits, value_at, youngest};
+use situations::{Row, between, forwarded_value, none_waits, value_at, youngest};
 use values::Values;
 
 /// Whether a load may take its value from where it finds it, as far as its source is known.
@@ -53,7 +53,7 @@ fn is_free(values: &Values, row: &Row, core: usize, from: usize, at: usize) -> b
     let seen = between(events, from, at);
     match events[at] {
         Event::L { a, r, .. } => {
-            forwarded(a, value_at(row.memory(), a as usize), seen) == r
+            forwarded_value(a, value_at(row.memory(), a as usize), seen) == r
                 && may_forward(values, row, core, from, at, a)
         }
         Event::S { .. } => true,
@@ -74,7 +74,7 @@ pub(crate) fn past_free(values: &Values, row: &Row, core: usize) -> usize
     ensures few { length (events_of values.now.cores core) < 2 ^ 32 → result < 2 ^ 32 }
 {
     let place = row.place(core);
-    let from = row.drained(core).min(place);
+    let from = row.drained_place(core).min(place);
     let count = values.events(core).len();
     for at in place..count {
         if !is_free(values, row, core, from, at) {

@@ -6,7 +6,7 @@ ghost use Rattle.completion.specs.Left.{IsLeft, LeavesFed};
 ghost use Rattle.completion.specs.Pairs.{IsTable};
 
 use crate::dropping::drop_all_unfed;
-use crate::restricting::restricted;
+use crate::restricting::restrict_to;
 use crate::table::Placed;
 use bitrow::BitRow;
 use common::{EventId, OutOfMemory};
@@ -43,7 +43,7 @@ pub(crate) fn left_of(
         return Ok(None);
     }
     let events = row.to_numbers(alloc)?;
-    let rest = restricted(alloc, values, table, &row, &events)?;
+    let rest = restrict_to(alloc, values, table, &row, &events)?;
     Ok(Some(Left {
         row,
         events,

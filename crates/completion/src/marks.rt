@@ -29,7 +29,7 @@ fn has_mark(mark: usize, known: Option<Option<EventId>>) -> bool
 }
 
 /// A mark, where some read is known to have such a source, else 0.
-pub(crate) fn marked(values: &Values, mark: usize) -> usize
+pub(crate) fn mark_where_known(values: &Values, mark: usize) -> usize
     ensures { result ≡ marked values.now mark }
 {
     for known in values.sources() {
@@ -44,7 +44,7 @@ pub(crate) fn marked(values: &Values, mark: usize) -> usize
 pub(crate) fn marked_initial(values: &Values) -> usize
     ensures { result ≡ marked values.now (mark None) }
 {
-    marked(values, 1)
+    mark_where_known(values, 1)
 }
 
 /// The mark of the event of a core at a place.

@@ -9,7 +9,7 @@ ghost use Rattle.completion.specs.Pairs.{IsTable};
 use crate::determined::are_determined;
 use crate::feeding::is_fed_by;
 use crate::known::{keeps_finals, keeps_sources};
-use crate::sourced::sourced;
+use crate::sourced::cores_with_sources;
 use crate::table::{Placed, event_at, table};
 use common::{EventId, MAX_EVENTS, OutOfMemory};
 use recording::{Recording, RecordingSize};
@@ -86,14 +86,14 @@ fn make_choices(alloc: Global, values: &Values, table: &[Placed]) -> Result<Choi
 }
 
 /// The recording of these choices, if it is one of the values.
-fn recorded(
+fn recording_with(
     alloc: Global,
     values: &Values,
     choices: Choices,
 ) -> Result<Option<Recording>, OutOfMemory>
     ensures { IfOk result (λ o. IfSome o (λ x. HasValues values.now x)) }
 {
-    let cores = sourced(alloc, values, choices.sources.as_slice())?;
+    let cores = cores_with_sources(alloc, values, choices.sources.as_slice())?;
     let init = Vec::from_slice(alloc, values.init())?;
     let size = RecordingSize::Short;
     let Ok(recording) = Recording::from_parts(alloc, size, cores, choices.writes, init)? else {
@@ -116,6 +116,6 @@ pub fn only_recording(alloc: Global, values: &Values) -> Result<Option<Recording
         return Ok(None);
     }
     let choices = make_choices(alloc, values, &table)?;
-    let recording = recorded(alloc, values, choices)?;
+    let recording = recording_with(alloc, values, choices)?;
     Ok(recording)
 }

@@ -17,7 +17,7 @@ fn is_over(values: &Values, row: &Row, core: usize) -> bool
     if place < events.len() {
         return false;
     }
-    let from = row.drained(core);
+    let from = row.drained_place(core);
     oldest(from, between(events, from, place)).is_none()
 }
 

@@ -77,7 +77,7 @@ pub(crate) fn write_of(values: &Values, row: &Row, turn: Turn) -> Option<Waiting
             write_at(events, place)
         }
         Move::Drain => {
-            let from = row.drained(turn.core);
+            let from = row.drained_place(turn.core);
             let waiting = between(events, from, place);
             if waiting.is_empty() {
                 return None;
@@ -237,7 +237,7 @@ fn take(
 }
 
 /// The moves in the order in which they are tried: the late ones last, from a place on and round.
-fn ordered(alloc: Global, found: &[Choice], first: usize) -> Result<Vec<Turn>, OutOfMemory>
+fn order_moves(alloc: Global, found: &[Choice], first: usize) -> Result<Vec<Turn>, OutOfMemory>
     requires { first ≤ length found.now }
     ensures { IfOk result (λ moves. (t : Turn) → Contains (map (λ x. x.turn) found.now) t → Contains moves.items t) }
 {
@@ -251,7 +251,7 @@ fn ordered(alloc: Global, found: &[Choice], first: usize) -> Result<Vec<Turn>, O
 }
 
 /// The moves of all cores that can be made and don't come too early, those that are tried first first.
-pub(crate) fn ranked(
+pub(crate) fn rank_moves(
     alloc: Global,
     values: &Values,
     pairs: &[BitRow],
@@ -270,6 +270,6 @@ pub(crate) fn ranked(
     } else {
         (mixer.next() >> 33) as usize % count
     };
-    let moves = ordered(alloc, &found, first)?;
+    let moves = order_moves(alloc, &found, first)?;
     Ok(moves)
 }

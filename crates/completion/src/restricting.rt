@@ -99,7 +99,7 @@ fn kept_sources(
 }
 
 /// The values with the events alone that are kept, which are those of a row. Fails only if out of memory.
-pub(crate) fn restricted(
+pub(crate) fn restrict_to(
     alloc: Global,
     values: &Values,
     table: &[Placed],

@@ -157,7 +157,7 @@ fn source_by_value(values: &Values, table: &[Placed], read: usize, address: Addr
 }
 
 /// The source of an event that is known.
-fn known(source: Option<EventId>) -> Source
+fn known_source(source: Option<EventId>) -> Source
     ensures { result ≡ found_of source }
 {
     match source {
@@ -176,7 +176,7 @@ pub(crate) fn source_of(values: &Values, table: &[Placed], read: usize, address:
     let sources = values.sources();
     if read < sources.len() {
         if let Some(source) = sources[read] {
-            return known(source);
+            return known_source(source);
         }
     }
     source_by_value(values, table, read, address)

@@ -97,7 +97,7 @@ fn closes(blocks: &[u8]) -> bool
 }
 
 /// Blocks from a place on, and then those before it.
-fn rotated(alloc: Global, blocks: &[u8], first: usize) -> Result<Vec<u8>, OutOfMemory>
+fn rotate_blocks(alloc: Global, blocks: &[u8], first: usize) -> Result<Vec<u8>, OutOfMemory>
     requires { first ≤ length blocks.now }
     ensures { IfOk result (λ turned. turned.items ≡ rotated blocks.now first) }
 {
@@ -118,7 +118,7 @@ fn is_passed(alloc: Global, blocks: &[u8], first: usize) -> Result<bool, OutOfMe
     requires { first ≤ length blocks.now }
     ensures { IfOk result (λ b. b ≡ is_passed blocks.now first) }
 {
-    let turned = rotated(alloc, blocks, first)?;
+    let turned = rotate_blocks(alloc, blocks, first)?;
     Ok(!is_first(turned.as_slice().cmp(blocks)))
 }
 

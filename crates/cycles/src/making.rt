@@ -8,8 +8,8 @@ ghost use Rattle.cycles.specs.Made.{AreCycle, HaveLetters, IsMade, IsMadeFrom, I
 use crate::checking::{have_diy_values, is_made_of};
 use crate::closing::{are_closed, first_open};
 use crate::limits::first_beyond;
-use crate::naming::{have_letters, renamed};
-use crate::planning::planned;
+use crate::naming::{have_letters, rename_addresses};
+use crate::planning::plan_events;
 use crate::reading::words_in;
 use crate::refusal::CycleRefusal;
 use crate::word::Word;
@@ -58,7 +58,7 @@ fn program_of(alloc: Global, recording: &Recording) -> Result<Option<Program>, O
         return Ok(None);
     }
     let named = named_program(alloc, recording)?;
-    let Some(program) = renamed(alloc, &named)? else {
+    let Some(program) = rename_addresses(alloc, &named)? else {
         return Ok(None);
     };
     if !is_program_of(&program, recording) || !have_letters(&program) {
@@ -71,7 +71,7 @@ fn program_of(alloc: Global, recording: &Recording) -> Result<Option<Program>, O
 fn made_from(alloc: Global, words: &[Word]) -> Result<Option<Made>, OutOfMemory>
     ensures { IfOk result (λ o. IfSome o (IsMadeFrom words.now)) }
 {
-    let Some(plan) = planned(alloc, words)? else {
+    let Some(plan) = plan_events(alloc, words)? else {
         return Ok(None);
     };
     let Some(recording) = recording_of(alloc, plan.cores, plan.writes)? else {

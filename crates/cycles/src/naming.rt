@@ -26,19 +26,22 @@ fn letters(alloc: Global, count: usize) -> Result<IndexSet<Name>, OutOfMemory> {
 }
 
 /// The operations of each core, in memory of their own.
-fn copied(alloc: Global, cores: &[Ops]) -> Result<Vec<Ops>, OutOfMemory> {
+fn copy_cores(alloc: Global, cores: &[Ops]) -> Result<Vec<Ops>, OutOfMemory> {
     let mut copies = Vec::new(alloc);
     for ops in cores {
-        let one = Ops::copied(alloc, ops.as_slice())?;
+        let one = Ops::copy_of(alloc, ops.as_slice())?;
         copies.push(one)?;
     }
     Ok(copies)
 }
 
 /// A program with other names of its addresses.
-pub(crate) fn renamed(alloc: Global, program: &Program) -> Result<Option<Program>, OutOfMemory> {
+pub(crate) fn rename_addresses(
+    alloc: Global,
+    program: &Program,
+) -> Result<Option<Program>, OutOfMemory> {
     let names = letters(alloc, program.names().len())?;
-    let cores = copied(alloc, program.lists())?;
+    let cores = copy_cores(alloc, program.lists())?;
     let init = Vec::from_slice(alloc, program.init())?;
     Ok(Program::new(names, cores, init))
 }

@@ -47,7 +47,7 @@ fn first_place(words: &[Word]) -> usize {
 }
 
 /// The words from a place on, and then those before it.
-fn rotated(alloc: Global, words: &[Word], first: usize) -> Result<Vec<Word>, OutOfMemory> {
+fn rotate_words(alloc: Global, words: &[Word], first: usize) -> Result<Vec<Word>, OutOfMemory> {
     let mut turned = Vec::new(alloc);
     for i in first..words.len() {
         turned.push(word_at(words, i))?;
@@ -213,7 +213,11 @@ impl Memory {
 
 /// Performs all accesses of words, from the first turn on. Where that is within an atomic access, the side of it with
 /// which its word starts comes first, and the other last.
-fn performed(alloc: Global, words: &[Word], accesses: &[Access]) -> Result<Memory, OutOfMemory> {
+fn perform_accesses(
+    alloc: Global,
+    words: &[Word],
+    accesses: &[Access],
+) -> Result<Memory, OutOfMemory> {
     let addresses = address_count(words).max(1);
     let mut memory = Memory::new(alloc, addresses, accesses.len())?;
     let first = first_turn(words);
@@ -320,13 +324,13 @@ fn numbers(alloc: Global, accesses: &[Access], first: usize) -> Result<Vec<Event
 /// The events that words ask for, if each two words meet: the accesses of each core in program order, in the order in
 /// which words lead from one core to another; the writes of each address in the order in which words lead from one to
 /// the next. Fails only if out of memory.
-pub(crate) fn planned(alloc: Global, words: &[Word]) -> Result<Option<Plan>, OutOfMemory> {
+pub(crate) fn plan_events(alloc: Global, words: &[Word]) -> Result<Option<Plan>, OutOfMemory> {
     let first = first_place(words);
-    let turned = rotated(alloc, words, first)?;
+    let turned = rotate_words(alloc, words, first)?;
     let Some(accesses) = accesses(alloc, &turned)? else {
         return Ok(None);
     };
-    let memory = performed(alloc, &turned, &accesses)?;
+    let memory = perform_accesses(alloc, &turned, &accesses)?;
     let cores = cores(alloc, &turned, &accesses, &memory)?;
     let events = numbers(alloc, &accesses, first)?;
     let Memory { writes, .. } = memory;

@@ -81,7 +81,7 @@ fn in_order(fenced: bool, same_address: bool, text: &[u8]) -> Option<Word>
 }
 
 /// Another word.
-fn linked(link: Link, same_core: bool) -> Option<Word>
+fn word_of_link(link: Link, same_core: bool) -> Option<Word>
     ensures { result ≡ linked link same_core }
 {
     Some(Word::Side(Side { link, same_core }))
@@ -93,28 +93,28 @@ fn word_of(text: &[u8]) -> Option<Word>
     ensures { result ≡ word_of text.now }
 {
     if text == b"Rfe".as_slice() {
-        return linked(Link::Rf, false);
+        return word_of_link(Link::Rf, false);
     }
     if text == b"Rfi".as_slice() {
-        return linked(Link::Rf, true);
+        return word_of_link(Link::Rf, true);
     }
     if text == b"Fre".as_slice() {
-        return linked(Link::Fr, false);
+        return word_of_link(Link::Fr, false);
     }
     if text == b"Fri".as_slice() {
-        return linked(Link::Fr, true);
+        return word_of_link(Link::Fr, true);
     }
     if text == b"Coe".as_slice() {
-        return linked(Link::Co, false);
+        return word_of_link(Link::Co, false);
     }
     if text == b"Coi".as_slice() {
-        return linked(Link::Co, true);
+        return word_of_link(Link::Co, true);
     }
     if text == b"Wse".as_slice() {
-        return linked(Link::Co, false);
+        return word_of_link(Link::Co, false);
     }
     if text == b"Wsi".as_slice() {
-        return linked(Link::Co, true);
+        return word_of_link(Link::Co, true);
     }
     if let Some(rest) = text.strip_prefix(b"Pos".as_slice()) {
         return in_order(false, true, rest);

@@ -10,7 +10,7 @@ ghost use Rattle.cycles.specs.Says.{HasFence, PairSaid, Says, SideSaid, has_lett
 use crate::word::{Letter, Link, Pair, Side, Word};
 use common::EventId;
 use event_texts::event_of;
-use explanation::accessed;
+use explanation::address_or_zero;
 use recording::{Event, Recording, stands_before};
 
 /// Whether an event is what a letter says.
@@ -73,7 +73,7 @@ fn says_pair(recording: &Recording, pair: Pair, first: EventId, second: EventId)
     }
     let (_, one) = event_of(recording, first);
     let (_, other) = event_of(recording, second);
-    if (accessed(&one) == accessed(&other)) != pair.same_address {
+    if (address_or_zero(&one) == address_or_zero(&other)) != pair.same_address {
         return false;
     }
     has_letter(pair.first, &one) && has_letter(pair.second, &other)

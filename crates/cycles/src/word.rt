@@ -140,7 +140,7 @@ pub(crate) fn ending(word: Word) -> End
 
 /// Whether an access is atomic of which two words speak, where they agree; `differ` says whether one speaks of a store
 /// and the other of a load.
-fn agreed(one: Option<bool>, other: Option<bool>, differ: bool) -> Option<bool>
+fn agreement(one: Option<bool>, other: Option<bool>, differ: bool) -> Option<bool>
     ensures { result ≡ agreed one other differ }
 {
     match one {
@@ -183,7 +183,7 @@ pub(crate) fn meeting(word: Word, next: Word) -> Option<Kind>
 {
     let before = ending(word);
     let after = start(next);
-    let is_atomic = agreed(
+    let is_atomic = agreement(
         before.is_atomic,
         after.is_atomic,
         before.is_store != after.is_store,

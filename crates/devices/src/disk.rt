@@ -70,7 +70,7 @@ impl<'a> Disk<'a> {
     }
 
     /// The name of the input that was asked for last, where there was one and memory for its name.
-    pub fn asked(&self) -> Option<&str> {
+    pub fn last_name(&self) -> Option<&str> {
         match &self.asked {
             Some(name) => Some(name.as_str()),
             None => None,
@@ -88,7 +88,7 @@ impl<'a> Disk<'a> {
     }
 
     /// The input of this name, opened: `-` is standard input, and any other name that of a file.
-    fn opened(&mut self, name: &str) -> Result<Opened<'a>, InputError>
+    fn open_input(&mut self, name: &str) -> Result<Opened<'a>, InputError>
         ensures { self.new.tally ≡ self.old.tally }
     {
         self.asked = String::from_str(self.rt.alloc(), name).ok();
@@ -120,7 +120,7 @@ impl<'a> Host for Disk<'a> {
     ghost log = { λ d. record { asked = None; tally = d.tally } };
 
     fn input(&mut self, name: &str) -> Result<Device<Opened<'a>>, InputError> {
-        let opened = self.opened(name)?;
+        let opened = self.open_input(name)?;
         self.tally.lend();
         Ok(Device::new(opened))
     }

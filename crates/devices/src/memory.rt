@@ -105,7 +105,7 @@ impl MemorySink {
     }
 
     /// The bytes that were written.
-    pub fn written(&self) -> &[u8]
+    pub fn written_bytes(&self) -> &[u8]
         ensures { result.now ≡ self.now.written.items }
     {
         &self.written

@@ -55,7 +55,7 @@ impl Names {
     }
 
     /// What the address is called that an event writes.
-    pub fn written(&self, address: Option<Addr>) -> AddressName<'_>
+    pub fn written_name(&self, address: Option<Addr>) -> AddressName<'_>
         ensures { result ≡ written_text self.now address }
     {
         AddressName {

@@ -26,7 +26,9 @@ impl<'a> Named<'a> {
             ++ reason_line self.now.recording.now self.now.names.now second reason) }
     {
         put_indent(out, self.recording)?;
-        let address = self.names.written(self.recording.written_address(second));
+        let address = self
+            .names
+            .written_name(self.recording.written_address(second));
         match reason {
             Reason::Po => write!(out, "before {second} in program order\n"),
             Reason::Wo => write!(out, "before {second} in the write list of {address}\n"),

@@ -68,7 +68,7 @@ fn access_of(event: &Event) -> Access
 }
 
 /// The address of an event, 0 of a fence.
-pub fn accessed(event: &Event) -> Addr
+pub fn address_or_zero(event: &Event) -> Addr
     ensures { result ≡ accessed event.now }
 {
     match event {
@@ -129,7 +129,7 @@ fn step_of(recording: &Recording, places: &Places<'_>, first: EventId, second: E
     let (other_core, other) = event_of(recording, second);
     Step {
         reason: places.reason(first, second),
-        same_address: accessed(&event) == accessed(&other),
+        same_address: address_or_zero(&event) == address_or_zero(&other),
         same_core: core == other_core,
         from: access_of(&event),
         to: access_of(&other),

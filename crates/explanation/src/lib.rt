@@ -9,5 +9,5 @@ mod overlook;
 mod placed;
 mod words;
 
-pub use diy::accessed;
+pub use diy::address_or_zero;
 pub use words::explanation_text;

@@ -22,7 +22,7 @@ impl<'a> Named<'a> {
             self.now.names.now (written_text self.now.names.now address) source) }
     {
         put_indent(out, self.recording)?;
-        let address = self.names.written(address);
+        let address = self.names.written_name(address);
         let Some(source) = source else {
             return write!(
                 out,

@@ -74,7 +74,7 @@ impl Histogram {
     }
 
     /// How many runs are unfinished.
-    pub fn unfinished(&self) -> usize
+    pub fn unfinished_runs(&self) -> usize
         ensures { result ≡ self.now.unfinished }
     {
         self.unfinished

@@ -108,6 +108,6 @@ pub fn histogram_text(
     put_text_and_number(&mut out, b"Histogram (", histogram.len())?;
     put_text(&mut out, b" states)\n")?;
     put_bars(&mut out, alloc, program, mark, histogram)?;
-    put_unfinished(&mut out, histogram.unfinished())?;
+    put_unfinished(&mut out, histogram.unfinished_runs())?;
     Ok(out)
 }

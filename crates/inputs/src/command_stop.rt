@@ -4,7 +4,7 @@ ghost use Rattle.inputs.specs.Refusal.{IsLineStop};
 
 use crate::command_error::CommandError;
 use common::OutOfMemory;
-use refusals::refused;
+use refusals::line_of_name;
 use std::alloc::{AllocError, Global};
 
 /// What is printed of a text, a number or a name that is refused.
@@ -30,7 +30,7 @@ impl CommandStop {
     pub fn of_name(alloc: Global, name: &str) -> CommandStop
         ensures { IsLineStop (refused name.now) result }
     {
-        match refused(alloc, name) {
+        match line_of_name(alloc, name) {
             Ok(line) => CommandStop::Refused(PrintedRefusal { line, quote: None }),
             Err(_) => CommandStop::Failed(CommandError::OutOfMemory),
         }

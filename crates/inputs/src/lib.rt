@@ -12,6 +12,6 @@ mod refusal;
 pub use command_error::CommandError;
 pub use command_stop::{CommandStop, PrintedRefusal};
 pub use named::{labels_at, program_at, recording_at, values_at};
-pub use quoting::quoted;
-pub use reading::{opened, text_at};
+pub use quoting::quote_line;
+pub use reading::{open_input, text_at};
 pub use refusal::{line_refusal, step_refusal_name};

@@ -14,7 +14,7 @@ pub(crate) fn quoted_with_cause(
 ) -> Result<String, AllocError> {
     let ended = text.iter().filter(|byte| **byte == b'\n').count();
     let cause = cause_of(line_at(text, line), line <= ended);
-    let quote = quoted(alloc, text, line)?;
+    let quote = quote_line(alloc, text, line)?;
     format!(in alloc; "{quote}: {cause}")
 }
 
@@ -28,7 +28,7 @@ fn line_at(text: &[u8], line: usize) -> &[u8] {
 
 /// A line of a text, counted from 1, between quotation marks, with escapes for what is not printed. Of a long
 /// one it is the beginning.
-pub fn quoted(alloc: Global, text: &[u8], line: usize) -> Result<String, AllocError> {
+pub fn quote_line(alloc: Global, text: &[u8], line: usize) -> Result<String, AllocError> {
     let whole = line_at(text, line);
     match whole.get(..LONGEST) {
         Some(beginning) if whole.len() > LONGEST => {

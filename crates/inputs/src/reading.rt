@@ -10,7 +10,11 @@ use devices::{Host, InputError, ReadError, read_all};
 use std::alloc::Global;
 
 /// An input of this name, opened, or why it is not.
-pub fn opened<H: Host>(alloc: Global, host: &mut H, name: &str) -> Result<H::Input, CommandError>
+pub fn open_input<H: Host>(
+    alloc: Global,
+    host: &mut H,
+    name: &str,
+) -> Result<H::Input, CommandError>
     ensures given { IfOk result (λ input. Keeps (H.bytes host.old name.now) (H.Input.left input)) }
     ensures unread { IfOk result (λ input. H.Input.is_ended input ≡ false) }
     ensures unfailed { IfOk result (λ input. H.Input.read_failed input ≡ false) }
@@ -38,7 +42,7 @@ pub fn text_at<H: Host>(alloc: Global, host: &mut H, name: &str) -> Result<Vec<u
     ensures reads { ReadsInput name.now (H.log host.old) (H.log host.new) result }
     ensures kept { H.bytes host.new ≡ H.bytes host.old }
 {
-    let mut input = opened(alloc, host, name)?;
+    let mut input = open_input(alloc, host, name)?;
     let read = read_all(alloc, &mut input);
     host.take_back(input);
     match read {

@@ -4,7 +4,7 @@ ghost use Rattle.refusals.specs.Lines.{refusal_line};
 ghost use Rattle.inputs.specs.Refusal.{step_refusal_name};
 
 use crate::command_stop::PrintedRefusal;
-use crate::quoting::{quoted, quoted_with_cause};
+use crate::quoting::{quote_line, quoted_with_cause};
 use litmus::refusal_line;
 use machine::StepRefusal;
 use refusals::{L1, S1, S2, S3, S4};
@@ -34,7 +34,7 @@ pub fn line_refusal(
     let quote = if name == L1.name {
         quoted_with_cause(alloc, text, line)?
     } else {
-        quoted(alloc, text, line)?
+        quote_line(alloc, text, line)?
     };
     Ok(PrintedRefusal {
         line: refusal_line(alloc, name, line)?,

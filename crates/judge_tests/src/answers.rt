@@ -82,7 +82,7 @@ fn leaves_nothing<R: Threads + Wait + Sync, S: Source + Drop>(
     let mut source = source;
     let mut sink = MemorySink::new(alloc);
     let answered = answer(rt, alloc, &mut source, &mut sink, 1, &OpenGate);
-    answered == Err(ReportError::ReadFailed) && sink.written().is_empty()
+    answered == Err(ReportError::ReadFailed) && sink.written_bytes().is_empty()
 }
 
 /// Whether a read that fails after any byte of a text, or is interrupted, leaves nothing written.
@@ -115,7 +115,7 @@ fn is_written<R: Threads + Wait + Sync>(
     let mut source = MemorySource::new(MESSAGE_PASSING.as_bytes());
     let mut sink = MemorySink::failing(alloc, length);
     let answered = answer(rt, alloc, &mut source, &mut sink, 1, &OpenGate);
-    answered == outcome && CYCLE.get(..length) == Some(sink.written())
+    answered == outcome && CYCLE.get(..length) == Some(sink.written_bytes())
 }
 
 #[test]
@@ -217,7 +217,7 @@ fn is_refused<R: Threads + Wait + Sync>(rt: &R, alloc: Global, text: &[u8]) -> b
     let mut source = MemorySource::new(text);
     let mut sink = MemorySink::new(alloc);
     let answered = answer(rt, alloc, &mut source, &mut sink, 1, &OpenGate);
-    answered == Ok(Outcome::Refused) && sink.written() == b"refused: N1\n".as_slice()
+    answered == Ok(Outcome::Refused) && sink.written_bytes() == b"refused: N1\n".as_slice()
 }
 
 /// Whether each text that ends before this one does is refused.

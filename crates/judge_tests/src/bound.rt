@@ -7,7 +7,7 @@ ghost use Rattle.best.specs.Seats.{IsBestSeatOf, known_of};
 ghost use Rattle.search.specs.SourceRow.{AreShared};
 ghost use Rattle.search.specs.Bound.{IsSeatFor};
 
-use crate::recordings::{THREE_AND_FOUR, related};
+use crate::recordings::{THREE_AND_FOUR, relation_of};
 use best::{Best, BestSeat};
 use relations::Relation;
 use search::{SourceJob, jobs, row_under};
@@ -94,7 +94,7 @@ fn read_the_least(rt: &(impl Threads + Wait + Sync), alloc: Global, relation: &R
 
 /// Whether seats of a bound for two cycles read the least length.
 fn are_read(rt: &(impl Threads + Wait + Sync), alloc: Global) -> bool {
-    let Some(relation) = related(alloc, THREE_AND_FOUR) else {
+    let Some(relation) = relation_of(alloc, THREE_AND_FOUR) else {
         return false;
     };
     has_two_cycles(&relation) && read_the_least(rt, alloc, &relation)
@@ -107,7 +107,10 @@ fn seats_read_the_least_length(rt: HostRuntime) -> Result<(), Fail> {
 }
 
 /// A job for each event of a relation, and a bound for them with its first seat.
-pub fn begun(alloc: Global, relation: Relation) -> Option<(Vec<SourceJob>, Best, BestSeat)>
+pub fn jobs_with_bound(
+    alloc: Global,
+    relation: Relation,
+) -> Option<(Vec<SourceJob>, Best, BestSeat)>
     ensures seat { IfSome result (λ r. IsBestSeatOf r.1 r.2) }
     ensures jobs { IfSome result (λ r. AreShared (known_of r.2).relation r.0.items) }
 {
@@ -153,10 +156,10 @@ fn are_cut(alloc: Global, jobs: &[SourceJob], best: &Best, seat: &mut BestSeat) 
 
 /// Whether rows are cut at what was found before.
 fn are_cut_at_what_was_found(alloc: Global) -> bool {
-    let Some(relation) = related(alloc, THREE_AND_FOUR) else {
+    let Some(relation) = relation_of(alloc, THREE_AND_FOUR) else {
         return false;
     };
-    let Some((jobs, best, mut seat)) = begun(alloc, relation) else {
+    let Some((jobs, best, mut seat)) = jobs_with_bound(alloc, relation) else {
         return false;
     };
     are_cut(alloc, jobs.as_slice(), &best, &mut seat)

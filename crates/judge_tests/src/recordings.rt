@@ -45,13 +45,13 @@ pub const TWO_CYCLES: &str = r#"{"version":1,"writes":[[0,2],[1,3]],"cores":[
     [{"k":"R","a":0,"r":0,"s":null,"w":1},{"k":"R","a":1,"r":0,"s":null,"w":1}]]}"#;
 
 /// The recording of a text.
-pub fn recorded(alloc: Global, text: &str) -> Option<Recording> {
+pub fn recording_of(alloc: Global, text: &str) -> Option<Recording> {
     read_recording(alloc, text.as_bytes()).ok()
 }
 
 /// The forced pairs of the recording of a text.
-pub fn related(alloc: Global, text: &str) -> Option<Relation> {
-    let Some(recording) = recorded(alloc, text) else {
+pub fn relation_of(alloc: Global, text: &str) -> Option<Relation> {
+    let Some(recording) = recording_of(alloc, text) else {
         return None;
     };
     if recording.len() > MAX_EVENTS {

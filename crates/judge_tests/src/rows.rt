@@ -2,7 +2,7 @@
 
 use crate::recordings::{
     BYPASSING, MESSAGE_PASSING, OVERLOOKED_STORE, SELF_SOURCE, STORE_BUFFERING,
-    STORE_BUFFERING_FENCED, TWIN_SWAPS, TWO_CYCLES, recorded, related,
+    STORE_BUFFERING_FENCED, TWIN_SWAPS, TWO_CYCLES, recording_of, relation_of,
 };
 use bitrow::BitRow;
 use common::{EventId, MAX_EVENTS, OutOfMemory};
@@ -17,7 +17,7 @@ use std::thread::Threads;
 
 /// Whether the pairs of a recording have the reasons beside them, and are forced where they have one.
 fn have_reasons(alloc: Global, text: &str, pairs: &[(EventId, EventId, Option<Reason>)]) -> bool {
-    let Some(relation) = related(alloc, text) else {
+    let Some(relation) = relation_of(alloc, text) else {
         return false;
     };
     for (first, second, reason) in pairs {
@@ -56,7 +56,7 @@ fn a_pair_has_the_first_reason_that_holds(rt: HostRuntime) -> Result<(), Fail> {
 
 /// Whether each list is a memory order of the recording, or is not, as said.
 fn are_allowed_so(alloc: Global, text: &str, lists: &[(&[EventId], bool)]) -> bool {
-    let Some(recording) = recorded(alloc, text) else {
+    let Some(recording) = recording_of(alloc, text) else {
         return false;
     };
     for (order, allowed) in lists {
@@ -130,7 +130,7 @@ fn is_checked<R: Threads + Wait + Sync>(
 
 /// Whether each cycle of two swaps on each of two cores is checked so.
 fn are_checked<R: Threads + Wait + Sync>(rt: &R, alloc: Global) -> bool {
-    let Some(relation) = related(alloc, TWO_CYCLES) else {
+    let Some(relation) = relation_of(alloc, TWO_CYCLES) else {
         return false;
     };
     for given in OF_TWO_CYCLES {
@@ -169,7 +169,7 @@ fn is_right(alloc: Global, recording: &Recording, events: &[EventId]) -> bool {
 
 /// Whether these rows are found in the recording of a text.
 fn is_judged(alloc: Global, text: &str, events: &[EventId]) -> bool {
-    match recorded(alloc, text) {
+    match recording_of(alloc, text) {
         Some(recording) => is_right(alloc, &recording, events),
         None => false,
     }

@@ -5,8 +5,8 @@ ghost use Rattle.common.specs.declared.limits.TheConstants.{MAX_WORKERS};
 ghost use Rattle.best.specs.Seats.{IsBestSeatOf, known_of};
 ghost use Rattle.search.specs.SourceRow.{AreShared};
 
-use crate::bound::begun;
-use crate::recordings::{THREE_AND_FOUR, recorded, related};
+use crate::bound::jobs_with_bound;
+use crate::recordings::{THREE_AND_FOUR, recording_of, relation_of};
 use best::{Best, BestSeat};
 use common::{EventId, Gate, MAX_EVENTS, OpenGate};
 use judge::{Verdict, judge_gated};
@@ -190,10 +190,10 @@ fn find_the_shorter<G: Gate>(
 ) -> bool
     requires { (1 ≤ workers) × (workers ≤ MAX_WORKERS) }
 {
-    let Some(relation) = related(alloc, THREE_AND_FOUR) else {
+    let Some(relation) = relation_of(alloc, THREE_AND_FOUR) else {
         return false;
     };
-    let Some((jobs, best, mut seat)) = begun(alloc, relation) else {
+    let Some((jobs, best, mut seat)) = jobs_with_bound(alloc, relation) else {
         return false;
     };
     leave(rt, alloc, jobs, &best, &mut seat, workers, gate)
@@ -228,7 +228,7 @@ fn is_judged<R: Threads + Wait + Sync>(
 
 /// Whether two workers judge that the shorter of two cycles is the least.
 fn is_judged_shorter<R: Threads + Wait + Sync>(rt: &R, alloc: Global, watch: &Watch) -> bool {
-    match recorded(alloc, THREE_AND_FOUR) {
+    match recording_of(alloc, THREE_AND_FOUR) {
         Some(recording) => is_judged(rt, alloc, &recording, 2, &[4, 5, 6], watch),
         None => false,
     }
@@ -240,7 +240,7 @@ fn is_answered_shorter<R: Threads + Wait + Sync>(rt: &R, alloc: Global, watch: &
     let mut sink = MemorySink::new(alloc);
     let answered = answer(rt, alloc, &mut source, &mut sink, 2, watch);
     let shorter = b"cycle of 3\n4 -> 5 Rf\n5 -> 6 Po\n6 -> 4 Fr\n";
-    answered == Ok(Outcome::Violation) && sink.written().starts_with(shorter)
+    answered == Ok(Outcome::Violation) && sink.written_bytes().starts_with(shorter)
 }
 
 /// Whether two workers find, judge and answer so while the one that begins first is held.
@@ -267,7 +267,7 @@ fn a_worker_waits_for_no_other(rt: HostRuntime) -> Result<(), Fail> {
 }
 
 /// A core with this many stores to one address, whose write list is their reverse.
-fn reversed(alloc: Global, events: EventId) -> Option<Recording> {
+fn reversed_writes(alloc: Global, events: EventId) -> Option<Recording> {
     let mut list = Vec::new(alloc);
     for number in 0..events {
         list.push(events - 1 - number).ok()?;
@@ -292,7 +292,7 @@ fn is_made_once<R: Threads + Wait + Sync>(
     requires { (1 ≤ workers) × (workers ≤ MAX_WORKERS) }
 {
     let (Some(recording), Some(watch)) = (
-        reversed(alloc, events),
+        reversed_writes(alloc, events),
         Watch::new(alloc, events as usize, workers, at_work),
     ) else {
         return false;
@@ -356,7 +356,7 @@ impl Gate for Lasting<'_> {
 
 /// The forced pairs of the most events, which have cycles.
 fn most_pairs(alloc: Global) -> Option<Relation> {
-    let recording = reversed(alloc, MAX_EVENTS as EventId)?;
+    let recording = reversed_writes(alloc, MAX_EVENTS as EventId)?;
     if recording.len() > MAX_EVENTS {
         return None;
     }
@@ -370,7 +370,7 @@ fn is_searched<R: Threads + Wait + Sync, G: Gate>(
     relation: Relation,
     gate: &G,
 ) -> Option<bool> {
-    let (jobs, best, mut seat) = begun(alloc, relation)?;
+    let (jobs, best, mut seat) = jobs_with_bound(alloc, relation)?;
     Some(run_jobs(threads, alloc, jobs, &best, &mut seat, 1, gate).is_ok())
 }
 

@@ -72,7 +72,7 @@ fn setup(rest: &mut Cursor<'_>) -> Setup
 }
 
 /// Reads what is counted, up to the first seed or line.
-fn counted(rest: &mut Cursor<'_>) -> Counted
+fn read_counts(rest: &mut Cursor<'_>) -> Counted
     ensures { (c : Counted) (first : ℕ) (more : List ℕ) → CanBegin c first → rest.old ≡ counted_words c ++ more
         → (result ≡ c) × (rest.new ≡ more) }
 {
@@ -90,7 +90,7 @@ fn read_header(text: &[u8]) -> Header
     ensures { (h : Header) (more : List ℕ) → IsHeader h → text.now ≡ header_line h ++ more → result ≡ h }
 {
     let mut rest = Cursor::new(text);
-    let counted = counted(&mut rest);
+    let counted = read_counts(&mut rest);
     let first = number(&mut rest) as u64;
     let count = option(&mut rest, count_name(&counted)) as u64;
     Header {

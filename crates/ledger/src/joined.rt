@@ -165,7 +165,7 @@ fn tell(ledger: &mut Ledger, missing: u64, header: &Header, order: &[Section<'_>
 }
 
 /// A refusal of the texts of sections as one of their files.
-fn placed(error: MergeError, order: &[Section<'_>], files: &[Vec<u8>]) -> MergeError
+fn error_in_order(error: MergeError, order: &[Section<'_>], files: &[Vec<u8>]) -> MergeError
     requires { IsMergingError (map (λ s. s.text) order.now) error }
     ensures { IsNoOrderedJoin order.now result }
 {
@@ -184,7 +184,7 @@ fn placed(error: MergeError, order: &[Section<'_>], files: &[Vec<u8>]) -> MergeE
             MergeError::Refused {
                 refusal,
                 file: section.file(),
-                line: line_at(bytes.as_slice(), section.left()).saturating_add(line),
+                line: line_at(bytes.as_slice(), section.bytes_left()).saturating_add(line),
             }
         }
         other => other,
@@ -218,7 +218,7 @@ fn join_ordered(
     let texts = texts(alloc, order)?;
     let mut merged = match merge_texts(alloc, &texts) {
         Ok(merged) => merged,
-        Err(error) => return Err(placed(error, order, files)),
+        Err(error) => return Err(error_in_order(error, order, files)),
     };
     tell(&mut merged.ledger, missing, &header, order);
     Ok(Joined {

@@ -33,7 +33,7 @@ fn add_text(
     ensures ok { IfOk result (λ _. IsTextAdded kind sum.old sum.new rest.old rest.new) }
     ensures err { IfErr result (IsLedgerTextError kind sum.old rest.old) }
 {
-    let left = rest.left();
+    let left = rest.bytes_left();
     let ledger = match read(rest, alloc, kind) {
         Ok(ledger) => ledger,
         Err(fault) => return Err(fault),
@@ -61,7 +61,7 @@ fn add_file(alloc: Global, kind: Kind, sum: &mut Ledger, bytes: &[u8]) -> Result
         });
     }
     let mut rest = Cursor::new(bytes);
-    'texts: while rest.left() > 0 {
+    'texts: while rest.bytes_left() > 0 {
         if let Err(fault) = add_text(alloc, kind, sum, &mut rest) {
             return Err(fault);
         }
@@ -77,7 +77,7 @@ pub(crate) fn line_at(text: &[u8], left: usize) -> usize {
 }
 
 /// A fault of a file, with its number and its line.
-pub(crate) fn located(fault: TextError, file: usize, text: &[u8]) -> MergeError
+pub(crate) fn error_of_file(fault: TextError, file: usize, text: &[u8]) -> MergeError
     ensures { IsLocated fault file result }
 {
     match fault {
@@ -112,7 +112,7 @@ pub(crate) fn merge_texts(alloc: Global, files: &[&[u8]]) -> Result<Merged, Merg
     for i in 0..files.len() {
         let bytes = text_at(files, i);
         if let Err(fault) = add_file(alloc, kind, &mut sum, bytes) {
-            return Err(located(fault, i, bytes));
+            return Err(error_of_file(fault, i, bytes));
         }
     }
     Ok(Merged { kind, ledger: sum })

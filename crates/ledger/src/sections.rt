@@ -10,7 +10,7 @@ ghost use Rattle.ledger.specs.declared.ledger.Ledger.{Ledger};
 
 use crate::header::header;
 use crate::merge_error::{MergeError, MergeRefusal, TextError};
-use crate::merged::located;
+use crate::merged::error_of_file;
 use crate::text::read;
 use crate::text_kind::Kind;
 use common::OutOfMemory;
@@ -82,7 +82,7 @@ impl<'a> Section<'a> {
     }
 
     /// How many bytes of the file are left, from its header on.
-    pub(crate) fn left(&self) -> usize {
+    pub(crate) fn bytes_left(&self) -> usize {
         self.left
     }
 }
@@ -128,7 +128,7 @@ fn counts_under(
         × Fits header.now.counted header.now.count l.total × (first ≡ l.first)) }
     ensures err { IfErr result (IsNoSectionUnder header.now rest.old) }
 {
-    let counts = rest.left();
+    let counts = rest.bytes_left();
     let ledger = match read(rest, alloc, kind_of(&header.counted)) {
         Ok(ledger) => ledger,
         Err(error) => return Err(error),
@@ -156,11 +156,11 @@ fn section_under<'a>(
     ensures err { IfErr result (IsNoSectionUnder header rest.old) }
 {
     let text = rest.rest();
-    let counts = rest.left();
+    let counts = rest.bytes_left();
     match counts_under(rest, alloc, &header) {
         Ok(violation) => Ok(Section {
             header,
-            text: &text[..counts - rest.left()],
+            text: &text[..counts - rest.bytes_left()],
             violation,
             file,
             left,
@@ -180,7 +180,7 @@ fn next_section<'a>(
         → t.header ≡ s.header) }
     ensures err { IfErr result (IsNoSection rest.old) }
 {
-    let left = rest.left();
+    let left = rest.bytes_left();
     let Some(header) = header(rest, alloc)? else {
         return Err(TextError::Refused {
             refusal: header_refusal(rest),
@@ -219,7 +219,7 @@ fn add_section<'a>(
     ensures ok { IfOk result (λ _. IsSectionAdded found.old.items found.new.items rest.old rest.new) }
     ensures err { IfErr result (IsNoneAdded found.old.items rest.old) }
 {
-    let left = rest.left();
+    let left = rest.bytes_left();
     let next = match next_section(rest, alloc, file) {
         Ok(next) => next,
         Err(error) => return Err(error),
@@ -252,7 +252,7 @@ fn add_sections<'a>(
         });
     }
     let mut rest = Cursor::new(bytes);
-    'sections: while rest.left() > 0 {
+    'sections: while rest.bytes_left() > 0 {
         if let Err(error) = add_section(alloc, &mut rest, file, found) {
             return Err(error);
         }
@@ -273,7 +273,7 @@ pub(crate) fn sections<'a>(
     for i in 0..files.len() {
         let bytes = files[i].as_slice();
         if let Err(error) = add_sections(alloc, bytes, i, &mut found) {
-            return Err(located(error, i, bytes));
+            return Err(error_of_file(error, i, bytes));
         }
     }
     Ok(found)

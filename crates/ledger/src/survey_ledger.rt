@@ -57,8 +57,8 @@ impl SurveyLedger {
         ensures { AreJoinedSurveys self.old other.now self.new }
     {
         let total = self.ledger.total;
-        self.unfinished = joined(total, self.unfinished, other.unfinished);
-        self.unread = joined(total, self.unread, other.unread);
+        self.unfinished = joined_count(total, self.unfinished, other.unfinished);
+        self.unread = joined_count(total, self.unread, other.unread);
         self.ledger.add(&other.ledger);
     }
 }
@@ -92,7 +92,7 @@ fn first_unread(codes: &[u64]) -> Option<usize>
 }
 
 /// The count of two lists, of which the first has this many codes.
-fn joined(total: usize, one: KindCount, other: KindCount) -> KindCount
+fn joined_count(total: usize, one: KindCount, other: KindCount) -> KindCount
     requires count { one.count + other.count < 2 ^ 64 }
     requires first { IfSome other.first (λ k. total + k < 2 ^ 64) }
     ensures { AreJoinedKinds total one other result }

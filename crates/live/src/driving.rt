@@ -30,7 +30,7 @@ fn is_run_of(traced: &Traced, program: &Program, capacity: usize, limit: usize) 
 
 /// What the threads of a shared machine leave. It takes no memory of its own: `NoThread` where one was not started,
 /// else `Stranger` where what they left is not as given or not at its end.
-fn driven<R: Threads + Wait + Sync, G: Gate>(
+fn drive_threads<R: Threads + Wait + Sync, G: Gate>(
     rt: &R,
     shared: SharedMachine,
     program: &Program,
@@ -79,7 +79,7 @@ pub fn drive<R: Threads + Wait + Sync, G: Gate>(
     let given = program.copy(alloc)?;
     let machine = Machine::new(alloc, program, capacity, Fault::None)?;
     let shared = SharedMachine::new(Traced::new(alloc, machine, limit)?);
-    let traced = driven(rt, shared, &given, capacity, limit, gate)?;
+    let traced = drive_threads(rt, shared, &given, capacity, limit, gate)?;
     traced.sound();
     Ok(traced)
 }

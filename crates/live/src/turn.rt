@@ -91,7 +91,7 @@ fn drain(traced: &mut Traced) -> Turn {
 
 /// Some core gets the line that its oldest store waits for.
 fn get_line(traced: &mut Traced) -> Turn {
-    let Some(step) = awaited(traced.machine()) else {
+    let Some(step) = awaited_transaction(traced.machine()) else {
         return Turn::Idle;
     };
     match traced.advance(step) {
@@ -102,7 +102,7 @@ fn get_line(traced: &mut Traced) -> Turn {
 
 /// The transaction that the first core needs whose oldest store waits for a line that no core is
 /// about to drain to.
-fn awaited(machine: &Machine) -> Option<Step> {
+fn awaited_transaction(machine: &Machine) -> Option<Step> {
     for core in 0..machine.program().cores() {
         if let Some(addr) = machine.oldest(core as CoreId) {
             if !is_in_use(machine, addr) {

@@ -11,7 +11,7 @@ use program::Fault;
 use write_buffer::{Entry, WriteBuffer};
 
 /// The store that a load of an address gets from its core's buffer.
-pub(crate) fn forwarded(fault: Fault, buffer: &WriteBuffer, addr: Addr) -> Option<Entry>
+pub(crate) fn forwarded_store(fault: Fault, buffer: &WriteBuffer, addr: Addr) -> Option<Entry>
     ensures { result ≡ forwarded fault buffer.now.entries addr }
 {
     match fault {

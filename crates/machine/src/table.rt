@@ -4,7 +4,7 @@ ghost use Rattle.std.specs.Prelude.{◌≡◌};
 ghost use Rattle.machine.specs.Step.{forwarded_or_read};
 
 use crate::blocked::Blocked;
-use crate::fault::{drain, draining, forwarded, may_fence, may_rmw};
+use crate::fault::{drain, draining, forwarded_store, may_fence, may_rmw};
 use crate::machine::Machine;
 use common::{Addr, CoreId, EventId};
 use moesi::CacheError;
@@ -46,7 +46,7 @@ impl Machine {
         requires { IsNextOf self.old core (Ld addr) event }
         ensures { IsStepAnswer (exec_answer self.old core (Ld addr) event) self.old self.new result }
     {
-        let entry = forwarded(self.fault, &self.buffers[core as usize], addr);
+        let entry = forwarded_store(self.fault, &self.buffers[core as usize], addr);
         let Ok(what) = forwarded_or_read(entry, self.caches.read(core, addr)) else {
             return Err(Blocked::B4);
         };

@@ -57,7 +57,7 @@ impl Gate for Told {
 }
 
 /// A run by threads of the program of a text, whose buffers have room for 8 stores.
-fn driven<R: Threads + Wait + Sync, G: Gate>(
+fn run_by_threads<R: Threads + Wait + Sync, G: Gate>(
     rt: &R,
     alloc: Global,
     text: &str,
@@ -75,7 +75,7 @@ fn begins_with_core_1(trace: &[Step]) -> bool {
 
 /// Whether threads drive store buffering to its end, with a step of core 1 before those of core 0.
 fn is_driven<R: Threads + Wait + Sync>(rt: &R, alloc: Global, gate: &Told) -> Result<bool, Fail> {
-    let traced = driven(rt, alloc, STORE_BUFFERING, gate)?;
+    let traced = run_by_threads(rt, alloc, STORE_BUFFERING, gate)?;
     Ok(traced.machine().is_complete() && begins_with_core_1(traced.trace()))
 }
 
@@ -125,7 +125,7 @@ fn count_before_core_0(trace: &[Step]) -> usize {
 
 /// Whether the other core comes to its end, by drains and transactions, while core 0 is held.
 fn ends_beside<R: Threads + Wait + Sync>(rt: &R, alloc: Global, gate: &Held) -> Result<bool, Fail> {
-    let traced = driven(rt, alloc, DRAINED_BESIDE, gate)?;
+    let traced = run_by_threads(rt, alloc, DRAINED_BESIDE, gate)?;
     Ok(traced.machine().is_complete() && count_before_core_0(traced.trace()) == 4)
 }
 
@@ -164,7 +164,7 @@ fn leaves_stores(steps: &[Step]) -> bool {
 
 /// Whether a run has such a drain.
 fn has_single_drain<R: Threads + Wait + Sync>(rt: &R, alloc: Global) -> Result<bool, Fail> {
-    let traced = driven(rt, alloc, STORES_BESIDE_LOADS, &OpenGate)?;
+    let traced = run_by_threads(rt, alloc, STORES_BESIDE_LOADS, &OpenGate)?;
     Ok(leaves_stores(traced.trace()))
 }
 

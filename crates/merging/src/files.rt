@@ -10,7 +10,7 @@ use crate::counts_answer::{joined_answer, merged_answer};
 use crate::refusal_lines::{join_refusal, merge_refusal, name_at};
 use command_line::MergeOptions;
 use devices::Host;
-use inputs::{CommandError, CommandStop, PrintedRefusal, quoted, text_at};
+use inputs::{CommandError, CommandStop, PrintedRefusal, quote_line, text_at};
 use ledger::{Gaps, MergeError, join, merge};
 use std::alloc::{AllocError, Global};
 use verdicts::Answer;
@@ -47,7 +47,7 @@ fn quote_of(
     texts: &[Vec<u8>],
 ) -> Result<Option<String>, AllocError> {
     match texts.get(file) {
-        Some(text) => Ok(Some(quoted(alloc, text.as_slice(), line)?)),
+        Some(text) => Ok(Some(quote_line(alloc, text.as_slice(), line)?)),
         None => Ok(None),
     }
 }

@@ -5,8 +5,8 @@ ghost use Rattle.std.specs.Prelude.{◌≡◌, length};
 use crate::cell::Cell;
 use crate::error::CacheError;
 use crate::line::Line;
-use crate::word::{INVALID, Turn, relined, unpack, written};
-use crate::words::{asked, fill_memory, place, turn_all, words_for};
+use crate::word::{INVALID, Turn, modified_word, unpack, word_with_line};
+use crate::words::{ask, fill_memory, place, turn_all, words_for};
 use common::{Addr, CoreId, EventId, OutOfMemory};
 use std::alloc::Global;
 use std::marker::Model;
@@ -160,8 +160,8 @@ impl Caches {
               copy = supplied (block_of self.old addr);
             })) }
     {
-        let (valid, word) = asked(&self.words, self.cores, self.addresses, addr as usize);
-        let own = relined(word, if valid { beside } else { alone });
+        let (valid, word) = ask(&self.words, self.cores, self.addresses, addr as usize);
+        let own = word_with_line(word, if valid { beside } else { alone });
         turn_all(
             &mut self.words,
             self.cores,
@@ -242,7 +242,7 @@ impl Caches {
             return Err(CacheError::C3);
         }
         if line.is_owned() {
-            self.set_word(self.cores, addr, relined(word, Line::I));
+            self.set_word(self.cores, addr, word_with_line(word, Line::I));
         }
         self.set_word(core as usize, addr, INVALID);
         Ok(())
@@ -279,7 +279,7 @@ impl Caches {
         if !self.line(core, addr).is_exclusive() {
             return Err(CacheError::C4);
         }
-        self.set_word(core as usize, addr, written(value, event));
+        self.set_word(core as usize, addr, modified_word(value, event));
         Ok(())
     }
 }

@@ -81,28 +81,28 @@ pub(crate) fn unpack(word: u64) -> Cell
 }
 
 /// The word of a line in this state with the data of another word.
-pub(crate) fn relined(word: u64, line: Line) -> u64
+pub(crate) fn word_with_line(word: u64, line: Line) -> u64
     ensures { cell_in result ≡ record { line = line; copy = (cell_in word).copy } }
 {
     (line_code(line) << COPY_BITS) + word % (1 << COPY_BITS)
 }
 
 /// The word of a line in M with these data.
-pub(crate) fn written(value: u32, event: EventId) -> u64
+pub(crate) fn modified_word(value: u32, event: EventId) -> u64
     requires { event < MAX_EVENTS }
     ensures { cell_in result ≡ record { line = M; copy = (value, Some event) } }
 {
-    relined(((event as u64 + 1) << VALUE_BITS) + value as u64, Line::M)
+    word_with_line(((event as u64 + 1) << VALUE_BITS) + value as u64, Line::M)
 }
 
 /// The word once another core made its transaction.
-pub(crate) fn turned(word: u64, turn: Turn) -> u64
+pub(crate) fn turn_word(word: u64, turn: Turn) -> u64
     ensures { cell_in result ≡ turned turn (cell_in word) }
 {
     let line = unpack(word).line;
     match turn {
         Turn::Share if !line.is_exclusive() => word,
-        Turn::Share => relined(word, if line.is_owned() { Line::O } else { Line::S }),
+        Turn::Share => word_with_line(word, if line.is_owned() { Line::O } else { Line::S }),
         Turn::LeaveStale if line == Line::S => word,
         _ => INVALID,
     }

@@ -6,7 +6,7 @@ ghost use Rattle.moesi.specs.State.{with_block};
 ghost use Rattle.moesi.specs.Rows.{turned};
 ghost use Rattle.moesi.specs.Words.{cell_in, memory_cell, AreWords, block_in, caches_in};
 
-use crate::word::{INVALID, Turn, turned, unpack};
+use crate::word::{INVALID, Turn, turn_word, unpack};
 use common::OutOfMemory;
 use std::alloc::Global;
 
@@ -53,7 +53,7 @@ pub(crate) fn fill_memory(words: &mut [u64], cores: usize, init: &[u32])
 
 /// What a core that asks for a line learns of the address: whether some line is valid, and the word whose
 /// data it is given, that of the first line that supplies them, else memory's.
-pub(crate) fn asked(words: &[u64], cores: usize, addresses: usize, addr: usize) -> (bool, u64)
+pub(crate) fn ask(words: &[u64], cores: usize, addresses: usize, addr: usize) -> (bool, u64)
     requires words { AreWords cores addresses words.now }
     requires address { addr < addresses }
     ensures valid { result.0 ≡ has_copy (block_in cores addresses words.now addr) }
@@ -91,7 +91,7 @@ pub(crate) fn turn_all(
 {
     let mut at = addr;
     for _ in 0..cores {
-        words[at] = turned(words[at], turn);
+        words[at] = turn_word(words[at], turn);
         at += addresses;
     }
     words[place(core, addresses, addr)] = own;

@@ -25,7 +25,7 @@ fn plain_len(line: &[u8]) -> usize
 }
 
 /// What stands before a `#`, which begins a comment.
-pub(crate) fn uncommented(line: &[u8]) -> &[u8]
+pub(crate) fn before_comment(line: &[u8]) -> &[u8]
     ensures { result.now ≡ uncommented line.now }
 {
     &line[..plain_len(line)]
@@ -62,7 +62,7 @@ fn digits(text: &[u8]) -> usize
 }
 
 /// What stands after the blanks.
-pub(crate) fn trimmed(text: &[u8]) -> &[u8]
+pub(crate) fn after_blanks(text: &[u8]) -> &[u8]
     ensures { result.now ≡ trimmed text.now }
 {
     &text[blanks(text)..]
@@ -108,5 +108,5 @@ pub(crate) fn count_len(text: &[u8]) -> usize
 pub(crate) fn after_count(text: &[u8]) -> &[u8]
     ensures { result.now ≡ after_count text.now }
 {
-    after_mark(trimmed(&text[count_len(text)..]))
+    after_mark(after_blanks(&text[count_len(text)..]))
 }

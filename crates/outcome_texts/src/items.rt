@@ -84,7 +84,7 @@ fn name_in(key: &[u8]) -> &[u8]
 
 /// What an address ended with.
 #[tactic(auto, unfolding(crate::specs::ObservedLine::ended))]
-fn ended(program: &Program, key: &[u8], value: u32) -> Option<Observation>
+fn ending_said(program: &Program, key: &[u8], value: u32) -> Option<Observation>
     ensures { result ≡ ended program.now key.now value }
 {
     let name = Name::new(name_in(key))?;
@@ -124,11 +124,11 @@ fn equals_in(text: &[u8]) -> Option<usize>
 
 /// What an item with this key and value says.
 #[tactic(auto, unfolding(crate::specs::ObservedLine::keyed))]
-fn keyed(program: &Program, key: &[u8], value: u32) -> Option<Observation>
+fn item_of_key(program: &Program, key: &[u8], value: u32) -> Option<Observation>
     ensures { result ≡ keyed program.now key.now value (position is_colon key.now) }
 {
     match colon_in(key) {
-        None => ended(program, key, value),
+        None => ending_said(program, key, value),
         Some(at) => read_of(program, &key[..at], &key[at + 1..], value),
     }
 }
@@ -140,7 +140,7 @@ fn observation_of(program: &Program, item: &[u8]) -> Option<Observation>
 {
     let at = equals_in(item)?;
     let value = small_number(&item[at + 1..])?;
-    keyed(program, &item[..at], value)
+    item_of_key(program, &item[..at], value)
 }
 
 /// Whether the last byte is `;`.

@@ -7,7 +7,7 @@ ghost use Rattle.outcome_texts.specs.Log.{bracketed, count_text, is_item, is_ref
 ghost use Rattle.outcome_texts.specs.Log.{is_plain, item_text, item_texts, line_says, log_from, log_says};
 ghost use Rattle.outcome_texts.specs.Log.{no_equals, with_line, words_say};
 
-use crate::head::{after_count, count_len, trimmed, uncommented};
+use crate::head::{after_blanks, after_count, before_comment, count_len};
 use crate::items::Ending;
 use crate::saying::said_by;
 use crate::seen::{LineSays, SeenLine};
@@ -165,7 +165,7 @@ fn words_say(
 fn line_says(alloc: Global, program: &Program, line: &[u8]) -> Result<LineSays, OutOfMemory>
     ensures { IfOk result (λ says. says ≡ line_says program.now line.now) }
 {
-    let text = trimmed(uncommented(line));
+    let text = after_blanks(before_comment(line));
     let words = words_of(alloc, after_count(text))?;
     words_say(alloc, program, text, &words)
 }

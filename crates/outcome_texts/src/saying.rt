@@ -81,7 +81,7 @@ fn add_byte(text: &mut Vec<u8>, byte: u8) -> Result<(), OutOfMemory>
 }
 
 /// A text in which `/\` is a space.
-fn spaced(alloc: Global, text: &[u8]) -> Result<Vec<u8>, OutOfMemory>
+fn space_conjunctions(alloc: Global, text: &[u8]) -> Result<Vec<u8>, OutOfMemory>
     ensures { IfOk result (λ out. out.items ≡ spaced_from [] text.now) }
 {
     let mut out = Vec::new(alloc);
@@ -101,7 +101,7 @@ pub fn condition_of(
     ensures { IfOk result (λ r. MatchResult r (λ seen. condition_of program.now text.now ≡ Ok seen.items)
         (λ n. condition_of program.now text.now ≡ Err n)) }
 {
-    let text = spaced(alloc, text)?;
+    let text = space_conjunctions(alloc, text)?;
     let words = words_of(alloc, &text)?;
     said_by(alloc, program, Ending::Optional, &words)
 }

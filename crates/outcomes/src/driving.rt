@@ -36,7 +36,7 @@ fn op_moved(program: &Program, row: &Row, turn: Turn) -> Option<Op>
             None
         },
         Move::Drain => {
-            let from = row.drained(turn.core);
+            let from = row.drained_place(turn.core);
             match oldest(from, between(ops, from, place)) {
                 Some(store) => Some(Op::St(store.address, store.value)),
                 None => None,
@@ -86,7 +86,7 @@ fn make_and_follow(
 }
 
 /// A machine of a program at its beginning, whose buffers have room for all operations.
-fn opened(alloc: Global, program: &Program) -> Result<Replay, OutOfMemory>
+fn open_replay(alloc: Global, program: &Program) -> Result<Replay, OutOfMemory>
     ensures { IfOk result (HasComeTo program.now (beginning program.now)) }
 {
     program.sound();
@@ -125,7 +125,7 @@ pub(crate) fn drive(alloc: Global, program: &Program, turns: &[Turn]) -> Result<
         → after_moves program.now.cores (beginning program.now) turns.now ≡ Some r
         → HasComeTo program.now r replay) }
 {
-    let mut replay = opened(alloc, program)?;
+    let mut replay = open_replay(alloc, program)?;
     follow(alloc, program, &mut replay, turns)?;
     Ok(replay)
 }

@@ -29,7 +29,7 @@ fn is_over(program: &Program, row: &Row, core: usize) -> bool
     if place < ops.len() {
         return false;
     }
-    let from = row.drained(core);
+    let from = row.drained_place(core);
     oldest(from, between(ops, from, place)).is_none()
 }
 
@@ -71,7 +71,7 @@ fn endings(alloc: Global, program: &Program, rows: &Rows) -> Result<IndexSet<Out
 
 /// The outcomes that TSO allows of a program, by all rows that moves lead to: each once, in dictionary order. Fails
 /// only if out of memory.
-pub(crate) fn listed(
+pub(crate) fn list_outcomes(
     alloc: Global,
     program: &Program,
     rows: &Rows,
@@ -104,5 +104,5 @@ pub fn outcomes(
     let Some(seen) = search(alloc, program, limit)? else {
         return Ok(None);
     };
-    Ok(Some(listed(alloc, program, &seen)?))
+    Ok(Some(list_outcomes(alloc, program, &seen)?))
 }

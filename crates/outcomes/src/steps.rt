@@ -12,7 +12,7 @@ use crate::ops::past_stores;
 use crate::reads::first_event;
 use common::{Addr, CoreId, OutOfMemory};
 use program::{Op, Program};
-use situations::{Row, between, forwarded, none_waits, oldest};
+use situations::{Row, between, forwarded_value, none_waits, oldest};
 use std::alloc::Global;
 
 /// The value that a read-modify-write leaves where it reads this one.
@@ -59,7 +59,7 @@ fn perform(row: &mut Row, waiting: &[Op], event: usize, op: Op)
     match op {
         Op::St(_, _) => {}
         Op::Ld(address) => {
-            let value = forwarded(address, row.value(address as usize), waiting);
+            let value = forwarded_value(address, row.value(address as usize), waiting);
             row.note(event, value);
         }
         Op::Fence => {}
@@ -70,7 +70,7 @@ fn perform(row: &mut Row, waiting: &[Op], event: usize, op: Op)
 }
 
 /// What the next operation of a core leads to; none where it has to wait.
-fn executed(
+fn row_after_op(
     alloc: Global,
     program: &Program,
     row: &Row,
@@ -85,7 +85,7 @@ fn executed(
     let ops = program.ops(core as CoreId);
     let place = row.place(core);
     let event = first_event(program.lists(), core) + place;
-    let waiting = between(ops, row.drained(core), place);
+    let waiting = between(ops, row.drained_place(core), place);
     if !may_go(waiting, op) {
         return Ok(None);
     }
@@ -111,7 +111,7 @@ fn exec(
     if place >= ops.len() {
         return Ok(None);
     }
-    executed(alloc, program, row, core, ops[place])
+    row_after_op(alloc, program, row, core, ops[place])
 }
 
 /// What the oldest waiting store of a core, come to memory, leads to; none where none waits.
@@ -126,7 +126,7 @@ fn drain(
 {
     program.sound();
     let ops = program.ops(core as CoreId);
-    let from = row.drained(core);
+    let from = row.drained_place(core);
     let waiting = between(ops, from, row.place(core));
     let Some(store) = oldest(from, waiting) else {
         return Ok(None);

@@ -7,7 +7,7 @@ ghost use Rattle.outcomes.specs.Situation.{IsEnd};
 ghost use Rattle.outcomes.specs.Witness.{IsEndingAt, IsRecordingOf, IsWitness, first_showing};
 
 use crate::driving::drive;
-use crate::list::{is_end, listed};
+use crate::list::{is_end, list_outcomes};
 use crate::observed::{Observation, shows_all};
 use crate::outcome::Outcome;
 use crate::seen::search;
@@ -101,7 +101,7 @@ fn witness_among(
     requires { AreReachable program.now rows.now.keys }
     ensures { IfOk result (λ witness. (limit : ℕ) → IsWitness program.now limit seen.now witness) }
 {
-    let found = listed(alloc, program, rows)?;
+    let found = list_outcomes(alloc, program, rows)?;
     match first_showing(found.as_slice(), seen) {
         Some(outcome) => Ok(Witness::Found(recording_of(alloc, program, rows, outcome)?)),
         None => Ok(Witness::Forbidden),

@@ -54,7 +54,7 @@ impl Ops {
     }
 
     /// The operations of a list, in memory of their own. Fails only if out of memory.
-    pub fn copied(alloc: Global, list: &[Op]) -> Result<Ops, OutOfMemory>
+    pub fn copy_of(alloc: Global, list: &[Op]) -> Result<Ops, OutOfMemory>
         ensures { IfOk result (λ ops. ops ≡ list.now) }
     {
         let list = Vec::from_slice(alloc, list)?;
@@ -84,7 +84,7 @@ pub(crate) fn copies_of(alloc: Global, cores: &[Ops]) -> Result<Vec<Ops>, OutOfM
 {
     let mut copies = Vec::new(alloc);
     for core in cores {
-        copies.push(Ops::copied(alloc, core.as_slice())?)?;
+        copies.push(Ops::copy_of(alloc, core.as_slice())?)?;
     }
     Ok(copies)
 }

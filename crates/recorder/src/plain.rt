@@ -127,7 +127,7 @@ impl ReadMembers {
 
     /// The contents of an object with this many members.
     #[tactic(auto, unfolding(crate::specs::Reading::contents_of))]
-    pub(crate) fn found(self, keys: usize) -> Option<Parsed>
+    pub(crate) fn into_contents(self, keys: usize) -> Option<Parsed>
         ensures { option_map model_of result ≡ contents_of keys self.version
             (option_map (λ v. map (λ w. w.items) v.items) self.cores)
             (option_map (λ v. map (λ w. w.items) v.items) self.writes) (option_map (λ v. v.items) self.init) }
@@ -196,7 +196,7 @@ fn take_parsed(
         return Ok(None);
     }
     let keys = read_members.len();
-    Ok(read_members.found(keys))
+    Ok(read_members.into_contents(keys))
 }
 
 /// What a text in the simplest form has, with white space or without; of other texts it answers nothing.

@@ -123,7 +123,7 @@ fn shape_in(alloc: Global, value: &Value) -> Result<Option<Parsed>, AllocError>
         writes: lists_at::<Numbers>(alloc, value, "writes")?,
         init: list_at::<Values>(alloc, value, "init")?,
     };
-    Ok(read_members.found(keys))
+    Ok(read_members.into_contents(keys))
 }
 
 /// The initial values that were read; where none were, 0 for each write list.
@@ -176,10 +176,7 @@ fn parsed_in_tree(alloc: Global, bytes: &[u8]) -> Result<Parsed, RecError>
     ensures err { IfErr result (λ e. (size : RecordingSize) → IsReadingOf size bytes.now (Err e)) }
 {
     let value = tree_of(alloc, bytes)?;
-    let Ok(found) = shape_in(alloc, &value) else {
-        return Err(RecError::OutOfMemory);
-    };
-    if let Some(found) = found {
+    if let Some(found) = shape_in(alloc, &value)? {
         return Ok(found);
     }
     if is_values_alone(&value) {
@@ -202,13 +199,8 @@ fn recording_of(alloc: Global, contents: Parsed, size: RecordingSize) -> Result<
         init,
         ..
     } = contents;
-    let Ok(init) = initial_values(alloc, init, writes.as_slice()) else {
-        return Err(RecError::OutOfMemory);
-    };
-    let Ok(read) = Recording::from_parts(alloc, size, cores, writes, init) else {
-        return Err(RecError::OutOfMemory);
-    };
-    read
+    let init = initial_values(alloc, init, writes.as_slice())?;
+    Recording::from_parts(alloc, size, cores, writes, init)?
 }
 
 /// The recording of a size that the bytes give, or the first refusal: of the JSON, its shape, the version, and what
@@ -220,11 +212,8 @@ pub fn read_recording_of(
 ) -> Result<Recording, RecError>
     ensures { IsReadingOf size bytes.now result }
 {
-    let Ok(plain) = read_plain(alloc, bytes, size) else {
-        return Err(RecError::OutOfMemory);
-    };
-    if let Some(found) = plain {
-        return recording_of(alloc, found, size);
+    if let Some(plain) = read_plain(alloc, bytes, size)? {
+        return recording_of(alloc, plain, size);
     }
     match parsed_in_tree(alloc, bytes) {
         Ok(found) => recording_of(alloc, found, size),

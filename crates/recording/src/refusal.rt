@@ -9,33 +9,19 @@ use common::{Addr, EventId, OutOfMemory};
 use std::alloc::Global;
 
 impl<'p> Numbered<'p> {
-    ghost use Rattle.std.specs.Prelude.{◌≡◌, ◌↔◌, ◌<◌, ◌≤◌, ◌⊎◌, ℕ, IsTrue, IfOk, MatchOption, length};
+    ghost use Rattle.std.specs.Prelude.{◌↔◌, ◌≤◌, ℕ, IsTrue, IfOk, MatchOption};
     ghost use Rattle.common.specs.declared.limits.TheConstants.{MAX_RECORDED_EVENTS};
     ghost use Rattle.recording.specs.declared.size.RecordingSize.{RecordingSize};
     ghost use Rattle.recording.specs.declared.size.RecordingSize.TheVariants.{Long};
-    ghost use Rattle.recording.specs.Execution.{event_count, Reads, Writes};
+    ghost use Rattle.recording.specs.Execution.{event_count};
     ghost use Rattle.recording.specs.Recording.{IsRecordingWithin, IsWithinLimits};
-    ghost use Rattle.recording.specs.Refusals.{HasSource, HasValue, HasWriteList, IsLeastWithout, IsRefusal};
+    ghost use Rattle.recording.specs.Listed.{AreEventsRight, HasLists, HasSizes};
+    ghost use Rattle.recording.specs.Refusals.{HasWriteList, IsLeastWithout, IsRefusal};
 
-    /// Whether each address that is used has a write list.
-    fn has_all_lists(&self) -> bool
+    /// Whether they have no more cores, events and addresses than a size allows, and an initial value for each address.
+    fn has_sizes(&self, size: RecordingSize) -> bool
         requires { event_count self.now ≤ MAX_RECORDED_EVENTS }
-        ensures { IsTrue result ↔ ((e a : ℕ) → Reads self.now e a ⊎ Writes self.now e a
-            → a < length self.now.write_lists) }
-    {
-        for number in 0..self.len() as EventId {
-            if !self.has_lists_of(number) {
-                return false;
-            }
-        }
-        true
-    }
-
-    /// Whether they are within the limits of a size, each address that is used has a write list, and each
-    /// that has one has an initial value.
-    fn is_within_limits(&self, size: RecordingSize) -> bool
-        requires { event_count self.now ≤ MAX_RECORDED_EVENTS }
-        ensures { IsTrue result ↔ IsWithinLimits size self.now }
+        ensures { IsTrue result ↔ HasSizes size self.now }
     {
         let parts = self.parts();
         if parts.cores().len() > size.cores() {
@@ -47,28 +33,34 @@ impl<'p> Numbered<'p> {
         if parts.writes().len() > size.addresses() {
             return false;
         }
-        if parts.init().len() != parts.writes().len() {
-            return false;
-        }
-        self.has_all_lists()
+        parts.init().len() == parts.writes().len()
     }
 
-    /// The least event whose source is no write to the address that it reads; where there is none, the least whose value
-    /// read is not that of its source.
-    fn first_wrong_read(&self) -> Option<RecError>
+    /// What is wrong with the events: that one uses an address without a write list; where none does, the least whose
+    /// source is no write to the address that it reads; where there is none, the least whose value read is not that of
+    /// its source.
+    fn wrong_event(&self) -> Option<RecError>
         requires { event_count self.now ≤ MAX_RECORDED_EVENTS }
-        ensures { MatchOption result (((e : ℕ) → HasSource self.now e) × ((e : ℕ) → HasValue self.now e))
-            (λ e. (size : RecordingSize) → IsWithinLimits size self.now → IsRefusal size self.now e) }
+        ensures { MatchOption result (AreEventsRight self.now)
+            (λ e. (size : RecordingSize) → (HasLists self.now → IsWithinLimits size self.now)
+            → IsRefusal size self.now e) }
     {
-        let mut wrong = None;
+        let mut source = None;
+        let mut value = None;
         for number in 0..self.len() as EventId {
+            if !self.has_lists_of(number) {
+                return Some(RecError::Limits);
+            }
             match self.read_fault(number) {
-                Some(ReadFault::Source) => return Some(RecError::Source(number)),
-                Some(ReadFault::Value) => wrong = wrong.or(Some(number)),
+                Some(ReadFault::Source) => source = source.or(Some(number)),
+                Some(ReadFault::Value) => value = value.or(Some(number)),
                 None => {}
             }
         }
-        match wrong {
+        if let Some(number) = source {
+            return Some(RecError::Source(number));
+        }
+        match value {
             Some(number) => Some(RecError::Value(number)),
             None => None,
         }
@@ -96,10 +88,10 @@ impl<'p> Numbered<'p> {
         requires { event_count self.now ≤ MAX_RECORDED_EVENTS }
         ensures { IfOk result (λ r. MatchOption r (IsRecordingWithin size self.now) (λ e. IsRefusal size self.now e)) }
     {
-        if !self.is_within_limits(size) {
+        if !self.has_sizes(size) {
             return Ok(Some(RecError::Limits));
         }
-        if let Some(refusal) = self.first_wrong_read() {
+        if let Some(refusal) = self.wrong_event() {
             return Ok(Some(refusal));
         }
         if let Some(address) = self.first_without_list(alloc)? {

@@ -37,7 +37,7 @@ fn op_at(program: &Program, number: EventId) -> Op
 }
 
 /// An operation with its address by its place.
-fn readdressed(op: Op, addresses: &[Addr]) -> Op
+fn readdress(op: Op, addresses: &[Addr]) -> Op
     requires { length addresses.now ≤ MAX_RECORDED_EVENTS }
     ensures { result ≡ readdressed (place addresses.now) op }
 {
@@ -63,7 +63,7 @@ fn ops_of(
 {
     let mut ops = Ops::new(alloc);
     for number in numbers {
-        ops.push(readdressed(op_at(program, *number), addresses))?;
+        ops.push(readdress(op_at(program, *number), addresses))?;
     }
     Ok(ops)
 }

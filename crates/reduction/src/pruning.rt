@@ -72,7 +72,7 @@ fn pruned_cores(
 }
 
 /// The recording in which each read-modify-write that is none of these events is the store of what it wrote.
-pub(crate) fn pruned(
+pub(crate) fn prune(
     alloc: Global,
     recording: &Recording,
     readers: &[EventId],

@@ -17,7 +17,7 @@ mod table;
 pub use cycle_words::{E1, E2, E3};
 pub use event_labels::{A1, A2};
 pub use help::{meaning, meanings};
-pub use lines::{refusal_line, refused, refused_at};
+pub use lines::{line_of_name, refusal_line, refused_at};
 pub use merges::{M1, M2, M3, M4, M5, M6, M7, M8};
 pub use observations::{O1, O2};
 pub use options::{K1, K2, K3, K4, K5, K6, K7, K8, K9, K10, K11, K12, K13, K14, K15, K16};

@@ -7,7 +7,7 @@ use crate::refusal::Refusal;
 use std::alloc::{AllocError, Global};
 
 /// The line that is printed for a refusal of this name without a number. Fails only if out of memory.
-pub fn refused(alloc: Global, name: &str) -> Result<String, AllocError>
+pub fn line_of_name(alloc: Global, name: &str) -> Result<String, AllocError>
     ensures { IfOk result (λ text. string_bytes text ≡ refused name.now) }
 {
     format!(in alloc; "refused: {name}\n")
@@ -35,7 +35,7 @@ pub fn refused_at(
 {
     match refusal.counts {
         Some(counts) => numbered_line(alloc, refusal.name, counts, number),
-        None => refused(alloc, refusal.name),
+        None => line_of_name(alloc, refusal.name),
     }
 }
 

@@ -8,5 +8,5 @@ mod shown;
 
 pub use campaigns::campaign_answer;
 pub use many_runs::{live_histogram_answer, seeded_histogram_answer};
-pub use runs::{finished, script_answer, seeded_answer};
+pub use runs::{machine_answer, script_answer, seeded_answer};
 pub use shown::shown_answer;

@@ -21,7 +21,7 @@ fn outcome_of(histogram: &Histogram) -> Outcome
 {
     if histogram.has_violation() {
         Outcome::Violation
-    } else if histogram.unfinished() > 0 {
+    } else if histogram.unfinished_runs() > 0 {
         Outcome::Unfinished
     } else {
         Outcome::Done

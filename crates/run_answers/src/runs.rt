@@ -17,7 +17,10 @@ use verdicts::{Answer, Outcome, verdict_answer};
 
 /// The line of a recording and the verdict on it, or that a run is unfinished, by what is judged of the
 /// machine in which it ends. Fails only if out of memory.
-pub(crate) fn ended(alloc: Global, judged: Option<Judged>) -> Result<Answer, OutOfMemory>
+pub(crate) fn judged_run_answer(
+    alloc: Global,
+    judged: Option<Judged>,
+) -> Result<Answer, OutOfMemory>
     requires { (h : Configuration) × IsJudgedEnd h judged }
     ensures { IfOk result (λ answer. (h : Configuration) → IsJudgedEnd h judged
         → IsRunAnswer h.fault h.program h.state answer) }
@@ -33,11 +36,11 @@ pub(crate) fn ended(alloc: Global, judged: Option<Judged>) -> Result<Answer, Out
 
 /// The line of the recording of a complete machine and the verdict on it, or that it is unfinished.
 /// Fails only if out of memory.
-pub fn finished(alloc: Global, machine: Machine) -> Result<Answer, OutOfMemory>
+pub fn machine_answer(alloc: Global, machine: Machine) -> Result<Answer, OutOfMemory>
     ensures { IfOk result (IsRunAnswer machine.fault machine.program machine.state) }
 {
     let judged = judged_end(alloc, machine)?;
-    ended(alloc, judged)
+    judged_run_answer(alloc, judged)
 }
 
 /// The answer of a program that is run by a script, of which blocked steps are skipped. Fails only if
@@ -53,7 +56,7 @@ pub fn script_answer(
 {
     let mut machine = Machine::new(alloc, program, capacity, fault)?;
     machine.run(steps);
-    finished(alloc, machine)
+    machine_answer(alloc, machine)
 }
 
 /// The answer of a program whose steps are named by the words of a generator with this seed, this many
@@ -71,5 +74,5 @@ pub fn seeded_answer(
     let mut machine = Machine::new(alloc, program, capacity, fault)?;
     let mut rng = Xoshiro256PlusPlus::seed_from_u64(seed);
     run_seeded(&mut machine, &mut rng, attempts);
-    finished(alloc, machine)
+    machine_answer(alloc, machine)
 }

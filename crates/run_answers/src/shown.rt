@@ -6,7 +6,7 @@ ghost use Rattle.trials.specs.Judged.{IsJudgedEnd};
 ghost use Rattle.run_answers.specs.Campaign.{IsShownAnswer, IsShownRun, IsViolation};
 ghost use Rattle.answers.specs.Reduced.{IsCutAnswer};
 
-use crate::runs::ended;
+use crate::runs::judged_run_answer;
 use answers::{ViolationForm, cut_answer};
 use common::OutOfMemory;
 use litmus::print;
@@ -53,7 +53,7 @@ fn shown_run(alloc: Global, machine: Machine, form: ViolationForm) -> Result<Ans
         Some(answer) => Ok(answer),
         None => {
             let mut text = print(alloc, &program)?;
-            let run = ended(alloc, judged)?;
+            let run = judged_run_answer(alloc, judged)?;
             text.push(b'\n')?;
             text.extend_from_slice(&run.text)?;
             Ok(Answer {
@@ -64,7 +64,7 @@ fn shown_run(alloc: Global, machine: Machine, form: ViolationForm) -> Result<Ans
     }
 }
 
-/// The program of a trial below the number of trials, an empty line, and what `finished` answers of the
+/// The program of a trial below the number of trials, an empty line, and what `machine_answer` answers of the
 /// machine in which the trial ends; where it is to be reduced, of a violation the same of the events alone
 /// that it needs. Fails only if out of memory.
 pub fn shown_answer(

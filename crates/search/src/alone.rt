@@ -8,7 +8,7 @@ ghost use Rattle.search.specs.SourceRow.{AreJobsOf, AreShared, AreLeastRows};
 use crate::collect::{cut_by, relation_of};
 use crate::job::SourceJob;
 use crate::label_row::LabelRow;
-use crate::slots::filled;
+use crate::slots::fill_rows;
 use best::Best;
 use common::{EventId, OpenGate, OutOfMemory};
 use relations::Relation;
@@ -47,7 +47,7 @@ pub(crate) fn rows_alone(
 {
     let table: &Relation = relation;
     let (best, mut seat) = Best::open(alloc, table)?;
-    let rows = filled(
+    let rows = fill_rows(
         alloc,
         relation,
         Vec::new(alloc),

@@ -13,7 +13,7 @@ ghost use Rattle.search.specs.Slots.{AreSlots, AreSlotsFilled};
 
 use crate::job::SourceJob;
 use crate::label_row::LabelRow;
-use crate::slots::{empty_slots, filled, put_rows};
+use crate::slots::{empty_slots, fill_rows, put_rows};
 use crate::splitting::split_jobs;
 use crate::work::run_workers;
 use crate::worker_jobs::{WorkerJobs, WorkerRows};
@@ -79,7 +79,7 @@ fn rows_by_workers<R: Threads + Wait + Sync, G: Gate>(
 }
 
 /// The rows of all events of the relation that the jobs share.
-fn collected<R: Threads + Wait + Sync, G: Gate>(
+fn collect_rows<R: Threads + Wait + Sync, G: Gate>(
     rt: &R,
     alloc: Global,
     relation: &Arc<Relation>,
@@ -107,7 +107,7 @@ fn collected<R: Threads + Wait + Sync, G: Gate>(
         seat.absorb(other);
         put_rows(rows, &mut slots);
     }
-    let rows = filled(alloc, relation, slots, best, seat, gate)?;
+    let rows = fill_rows(alloc, relation, slots, best, seat, gate)?;
     Ok(cut_by(table, rows, best, seat))
 }
 
@@ -148,5 +148,5 @@ pub fn run_jobs<R: Threads + Wait + Sync, G: Gate>(
         return Ok(Vec::new(alloc));
     }
     let relation = relation_of(&jobs)?;
-    collected(rt, alloc, &relation, jobs, best, seat, workers, gate)
+    collect_rows(rt, alloc, &relation, jobs, best, seat, workers, gate)
 }

@@ -97,7 +97,7 @@ fn add_row<G: Gate>(
 }
 
 /// The rows of all events, by event: those in the places, and the missing ones made here.
-pub(crate) fn filled<G: Gate>(
+pub(crate) fn fill_rows<G: Gate>(
     alloc: Global,
     relation: &Arc<Relation>,
     slots: Vec<Option<LabelRow>>,

@@ -18,4 +18,4 @@ pub use row::Row;
 pub use rows::Rows;
 pub use set::ListSet;
 pub use step::Step;
-pub use waiting::{Waiting, between, forwarded, none_waits, oldest, youngest};
+pub use waiting::{Waiting, between, forwarded_value, none_waits, oldest, youngest};

@@ -144,7 +144,7 @@ impl Row {
     }
 
     /// The place after the last store of a core that memory has.
-    pub fn drained(&self, core: usize) -> usize
+    pub fn drained_place(&self, core: usize) -> usize
         ensures value { result ≡ drained_of self.now core }
         ensures few { result < 2 ^ 32 }
     {

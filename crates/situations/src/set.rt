@@ -12,7 +12,7 @@ use std::alloc::Global;
 use std::marker::Model;
 
 /// A number by which a list is found, after two words more.
-fn mixed(hash: u64, first: u32, second: u32) -> u64
+fn mix(hash: u64, first: u32, second: u32) -> u64
     ensures { result ≡ mixed hash first second }
 {
     let both = u64::from(first) + (u64::from(second) << 32);
@@ -27,10 +27,10 @@ fn hash_of(list: &[u32]) -> u64
     let mut hash = 0;
     let half = list.len() / 2;
     for i in 0..half {
-        hash = mixed(hash, list[2 * i], list[2 * i + 1]);
+        hash = mix(hash, list[2 * i], list[2 * i + 1]);
     }
     if list.len() % 2 == 1 {
-        hash = mixed(hash, list[2 * half], 0);
+        hash = mix(hash, list[2 * half], 0);
     }
     hash
 }

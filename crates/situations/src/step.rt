@@ -12,7 +12,7 @@ pub trait Step {
     ghost stored: { Self → Option (ℕ × ℕ) };
 
     /// The address and the value of a plain store; none of any other step.
-    fn stored(&self) -> Option<(Addr, u32)>
+    fn stored_value(&self) -> Option<(Addr, u32)>
         ensures { result ≡ stored self.now };
 }
 
@@ -21,7 +21,7 @@ impl Step for Op {
 
     ghost stored = { stored_by_op };
 
-    fn stored(&self) -> Option<(Addr, u32)> {
+    fn stored_value(&self) -> Option<(Addr, u32)> {
         match self {
             Op::St(address, value) => Some((*address, *value)),
             Op::Ld(_) => None,
@@ -38,7 +38,7 @@ impl Step for Event {
 
     ghost stored = { stored_by_event };
 
-    fn stored(&self) -> Option<(Addr, u32)> {
+    fn stored_value(&self) -> Option<(Addr, u32)> {
         match self {
             Event::L { .. } => None,
             Event::S { a, w } => Some((*a, *w)),

@@ -48,7 +48,7 @@ pub fn oldest<T: Step>(first: usize, steps: &[T]) -> Option<Waiting>
     ensures some { OnSome result (0 < length steps.now) }
 {
     for (i, step) in steps.iter().enumerate() {
-        let waiting = waiting_at(first + i, step.stored());
+        let waiting = waiting_at(first + i, step.stored_value());
         if waiting.is_some() {
             return waiting;
         }
@@ -61,7 +61,7 @@ pub fn none_waits<T: Step>(steps: &[T]) -> bool
     ensures { result ≡ none_waits T.stored steps.now }
 {
     for step in steps {
-        if step.stored().is_some() {
+        if step.stored_value().is_some() {
             return false;
         }
     }
@@ -79,12 +79,12 @@ fn newer(address: Addr, value: u32, stored: Option<(Addr, u32)>) -> u32
 }
 
 /// The value of the youngest store to an address, and the given one where none waits.
-pub fn forwarded<T: Step>(address: Addr, value: u32, steps: &[T]) -> u32
+pub fn forwarded_value<T: Step>(address: Addr, value: u32, steps: &[T]) -> u32
     ensures { result ≡ forwarded T.stored address value steps.now }
 {
     let mut found = value;
     for step in steps {
-        found = newer(address, found, step.stored());
+        found = newer(address, found, step.stored_value());
     }
     found
 }
@@ -111,7 +111,7 @@ pub fn youngest<T: Step>(address: Addr, first: usize, steps: &[T]) -> Option<usi
 {
     let mut found = None;
     for (i, step) in steps.iter().enumerate() {
-        found = younger(address, found, first + i, step.stored());
+        found = younger(address, found, first + i, step.stored_value());
     }
     found
 }

@@ -60,7 +60,7 @@ fn input_text(
     error: &CommandError,
     disk: &Disk<'_>,
 ) -> Result<Option<String>, AllocError> {
-    match (error, disk.asked()) {
+    match (error, disk.last_name()) {
         (CommandError::ReadFailed, Some(name)) => Ok(Some(format!(in alloc;
             "tsotest: {}: read failed\n",
             said_of(name)

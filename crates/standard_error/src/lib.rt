@@ -6,5 +6,5 @@ mod meanings;
 mod unfinished;
 
 pub use failure::{Audience, error_text};
-pub use meanings::explained;
+pub use meanings::meaning_of;
 pub use unfinished::advice;

@@ -24,7 +24,7 @@ fn explained_refusal(
 
 /// What a printed text means for a person, where it is the line of a refusal; with the line of the input that is
 /// refused, where one is. Fails only if out of memory.
-pub fn explained(
+pub fn meaning_of(
     alloc: Global,
     printed: &str,
     line: Option<&str>,

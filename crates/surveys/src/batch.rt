@@ -80,9 +80,9 @@ impl Batch {
         self.bytes.reserve(more).is_ok()
     }
 
-    /// A batch of the lines of both, in order, which is judged where both are. Where memory runs out before there is room
-    /// for the second ones it lacks them.
-    pub(crate) fn joined(self, more: Batch) -> Batch {
+    /// A batch of the lines of both, in order, which is judged where both are. Where memory runs out before there is
+    /// room for the second ones it lacks them.
+    pub(crate) fn join(self, more: Batch) -> Batch {
         let Batch {
             mut bytes,
             first,

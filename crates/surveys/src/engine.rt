@@ -14,7 +14,7 @@ use std::sync::Wait;
 const REPORTED_AT_ONCE: usize = 64;
 
 /// How many batches a worker has then at least.
-const BATCHES_OF_WORKER: usize = 4;
+const BATCHES_OF_WORKER: usize = 2;
 
 /// How many recordings lie on the queue at most.
 pub(crate) fn room_of(reports: Reports) -> usize {
@@ -84,7 +84,7 @@ impl<R: Wait, G: Gate> Engine<'_, R, G> {
 
     /// A judged batch and those after it that are judged, as one where each recording is reported, so that all their
     /// lines are written at once.
-    fn joined(&self, mut batch: Batch) -> Batch {
+    fn join_judged(&self, mut batch: Batch) -> Batch {
         for _ in 0..REPORTED_AT_ONCE {
             if self.reports == Reports::NoLine || !self.has_room(&mut batch) {
                 break;
@@ -92,7 +92,7 @@ impl<R: Wait, G: Gate> Engine<'_, R, G> {
             let Some(more) = self.queue.collect(self.rt) else {
                 break;
             };
-            batch = batch.joined(more);
+            batch = batch.join(more);
         }
         batch
     }
@@ -103,7 +103,7 @@ impl<R: Wait, G: Gate> Engine<'_, R, G> {
         for _ in 0..u64::MAX {
             match self.queue.turn(self.rt, kept) {
                 Turn::Over => return None,
-                Turn::Collected(batch) => return Some(self.joined(batch)),
+                Turn::Collected(batch) => return Some(self.join_judged(batch)),
                 Turn::Judge(at, batch) => self.judge(at, batch, 0),
             }
         }

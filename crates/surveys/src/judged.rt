@@ -27,7 +27,7 @@ use values::Values;
 use values_text::read_values;
 
 /// What a refusal finds; none where memory ran out.
-fn refused(refusal: RecError) -> Result<Finding, OutOfMemory>
+fn refused_finding(refusal: RecError) -> Result<Finding, OutOfMemory>
     ensures { IfOk result (λ f. (f ≡ Refused refusal) × (refusal ≢ refusals.OutOfMemory)) }
 {
     match refusal {
@@ -56,7 +56,7 @@ fn finding_of_recording(alloc: Global, bytes: &[u8]) -> Result<Finding, OutOfMem
 {
     match read_recording(alloc, bytes) {
         Ok(recording) => found_in(alloc, &recording),
-        Err(refusal) => refused(refusal),
+        Err(refusal) => refused_finding(refusal),
     }
 }
 
@@ -91,7 +91,7 @@ fn finding_of_long(alloc: Global, bytes: &[u8]) -> Result<Finding, OutOfMemory>
 {
     match read_recording_of(alloc, bytes, RecordingSize::Long) {
         Ok(recording) => found_in_long(alloc, &recording),
-        Err(refusal) => refused(refusal),
+        Err(refusal) => refused_finding(refusal),
     }
 }
 
@@ -113,7 +113,7 @@ fn finding_of_values(alloc: Global, bytes: &[u8], states: usize) -> Result<Findi
 {
     match read_values(alloc, bytes) {
         Ok(values) => found_of(alloc, &values, states),
-        Err(refusal) => refused(refusal),
+        Err(refusal) => refused_finding(refusal),
     }
 }
 

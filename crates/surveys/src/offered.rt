@@ -16,8 +16,8 @@ impl<R: Wait, G: Gate> Engine<'_, R, G> {
     ghost use Rattle.surveys.specs.Surveys.{IsLong, is_read_failure, is_write_failure};
     ghost use Rattle.surveys.specs.Tallies.{IsTallied, IsTally};
 
-    /// Offers the lines with which these bytes begin, up to an end, to workers, and counts those of the first batches, in
-    /// order, until at most this many bytes lie on the queue; answers how many bytes those are.
+    /// Offers the lines with which these bytes begin, up to an end, to workers, and counts those of the first batches,
+    /// in order, until at most this many bytes lie on the queue; answers how many bytes those are.
     fn count_batches<W: Sink>(
         &self,
         sink: &mut W,

@@ -17,8 +17,8 @@ const SLOTS: usize = 512;
 /// How many bytes a batch has at least, but for the last one of a block.
 const BATCH: usize = 16_384;
 
-/// How often a thread looks for what it needs before it sleeps, some 150 microseconds in all: to wake it may take longer
-/// than to judge a batch of short recordings.
+/// How often a thread looks for what it needs before it sleeps, some 150 microseconds in all: to wake it may take
+/// longer than to judge a batch of short recordings.
 const LOOKS: usize = 512;
 
 /// What lies at a slot.
@@ -125,7 +125,7 @@ impl Slots {
     }
 
     /// How many bytes lie here, and for how many recordings there is room.
-    fn held(&self) -> (usize, usize) {
+    fn totals_held(&self) -> (usize, usize) {
         let waiting = self.recordings.wrapping_sub(self.collected);
         (self.bytes, self.room.saturating_sub(waiting))
     }
@@ -278,7 +278,7 @@ impl WorkQueue {
     /// Puts these lines, of which those that lie here are the first, in batches of at most this many recordings; false
     /// where there is no more room or memory runs out before.
     pub(crate) fn offer<R: Wait>(&self, rt: &R, alloc: Global, lines: &[u8], most: usize) -> bool {
-        let (from, mut room) = self.slots.lock(rt).held();
+        let (from, mut room) = self.slots.lock(rt).totals_held();
         let mut rest = &lines[from.min(lines.len())..];
         'batches: while !rest.is_empty() {
             let (end, recordings) = first_lines(rest, most);

@@ -23,7 +23,7 @@ pub(crate) enum Sought {
 }
 
 /// A copy of a line.
-fn copied(alloc: Global, line: &[u8]) -> Result<Vec<u8>, OutOfMemory>
+fn copy_of_line(alloc: Global, line: &[u8]) -> Result<Vec<u8>, OutOfMemory>
     ensures { IfOk result (λ copy. copy.items ≡ line.now) }
 {
     let mut copy = Vec::with_capacity(alloc, line.len())?;
@@ -41,7 +41,7 @@ fn line_in(alloc: Global, bytes: &[u8], number: usize) -> Result<Sought, OutOfMe
         let (line, more) = split_line(rest);
         if !line.is_empty() {
             if left == 0 {
-                return Ok(Sought::Found(copied(alloc, line)?));
+                return Ok(Sought::Found(copy_of_line(alloc, line)?));
             }
             left -= 1;
         }

@@ -53,7 +53,7 @@ impl<'a> Cursor<'a> {
     }
 
     /// How many bytes are left.
-    pub fn left(&self) -> usize
+    pub fn bytes_left(&self) -> usize
         ensures { result ≡ length self.now }
     {
         self.rest.len()

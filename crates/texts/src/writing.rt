@@ -24,7 +24,7 @@ impl fmt::Write for Text {
 }
 
 /// What a text is with what `{}` writes of a value after it.
-fn written<D: Display + Drop>(bytes: Vec<u8>, value: D) -> (Vec<u8>, fmt::Result)
+fn write_value<D: Display + Drop>(bytes: Vec<u8>, value: D) -> (Vec<u8>, fmt::Result)
     ensures { OnOk result.1 (IfSome (D.output value) (λ bs. result.0.items ≡ bytes.items ++ bs)) }
 {
     let mut f = Formatter::new(Text { bytes });
@@ -38,7 +38,7 @@ pub fn put<D: Display + Drop>(out: &mut Vec<u8>, value: D) -> Result<(), OutOfMe
     ensures { OnOk result (IfSome (D.output value) (λ bs. out.new.items ≡ out.old.items ++ bs)) }
 {
     let empty = Vec::new(*out.allocator());
-    let (bytes, result) = written(std::mem::replace(out, empty), value);
+    let (bytes, result) = write_value(std::mem::replace(out, empty), value);
     *out = bytes;
     match result {
         Ok(()) => Ok(()),

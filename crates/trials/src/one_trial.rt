@@ -39,7 +39,7 @@ pub fn run_trial(alloc: Global, campaign: &Campaign, k: usize) -> Result<Machine
 }
 
 /// A trial with its code, by what is judged of a machine in which it ends.
-fn filed(campaign: &Campaign, k: usize, verdict: Option<Verdict>) -> Filed
+fn file_trial(campaign: &Campaign, k: usize, verdict: Option<Verdict>) -> Filed
     requires end { (h : Configuration) × EndsIn campaign.now k h × IsEndVerdict h verdict }
     requires short { IsShortEnd verdict }
     ensures { (result.campaign ≡ campaign.now) × (result.trial ≡ k) }
@@ -54,7 +54,7 @@ pub fn trial(alloc: Global, campaign: &Campaign, k: usize) -> Result<Filed, OutO
 {
     let machine = run_trial(alloc, campaign, k)?;
     let verdict = end_verdict(alloc, machine)?;
-    Ok(filed(campaign, k, verdict))
+    Ok(file_trial(campaign, k, verdict))
 }
 
 /// The recording of a machine; none exactly where it is not complete.

@@ -41,7 +41,7 @@ fn a_word_makes_an_operation(rt: HostRuntime) -> Result<(), Fail> {
 }
 
 // Why a step is blocked after these and the one that the word names.
-fn blocked(machine: Machine, steps: &[Step], word: u64, step: Step) -> Option<Blocked> {
+fn blocked_after(machine: Machine, steps: &[Step], word: u64, step: Step) -> Option<Blocked> {
     let mut machine = machine;
     machine.run(steps);
     run_seeded(&mut machine, &mut generator(word), 1);
@@ -60,7 +60,7 @@ fn is_why(
         return Err("a program")?;
     };
     let machine = Machine::new(alloc, program, 8, Fault::None)?;
-    Ok(blocked(machine, steps, word, step) == why)
+    Ok(blocked_after(machine, steps, word, step) == why)
 }
 
 /// The steps that come first, the word, a step after its own, and why that is blocked.

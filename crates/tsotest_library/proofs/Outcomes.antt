@@ -15,7 +15,7 @@ use Rattle.long.specs.declared.answer.LongAnswer.TheVariants as long
 use Rattle.long.specs.Texts.{long_outcome}
 use Rattle.text_judge.specs.Answer.{IsAnswerOf, IsLongAnswerOf}
 use Rattle.answers.specs.declared.rendering.Rendering.{Rendering}
-use Rattle.answers.specs.declared.rendering.Rendering.TheVariants.{Words, Picture, WholePicture, Reduction}
+use Rattle.answers.specs.declared.rendering.Rendering.TheVariants.{Told, Reduction}
 use Rattle.answers.specs.LongReduced.{IsLongReducedAnswer}
 use Rattle.answers.specs.Reduced.{IsReducedAnswer}
 use Rattle.answers.specs.Rendered.{IsLongRenderedAnswer, IsRenderedAnswer}
@@ -89,9 +89,7 @@ reduced_outcome x p labels a is = one_of outcome.Ordered a.outcome (inl refl) (�
 rendered_outcome : (rendering : Rendering) (x : Execution) (p : Option Parts) (labels : List (List ℕ)) (a : Answer)
     → IsRenderedAnswer rendering x p labels a
     → ComesOut outcome.Ordered a.outcome
-rendered_outcome Words x p labels a is = verdict_outcome is.verdict a.outcome is.outcome
-rendered_outcome Picture x p labels a is = verdict_outcome is.verdict a.outcome is.outcome
-rendered_outcome WholePicture x p labels a is = verdict_outcome is.verdict a.outcome is.outcome
+rendered_outcome (Told telling) x p labels a is = verdict_outcome is.verdict a.outcome is.outcome
 rendered_outcome Reduction x p labels a is = reduced_outcome x p labels a is
 
 -- what is left of a recording of any length
@@ -105,9 +103,7 @@ long_reduced_outcome x labels a is = one_of outcome.Ordered a.outcome (inl refl)
 -- what is told of one
 long_rendered_outcome : (rendering : Rendering) (x : Execution) (labels : List (List ℕ)) (a : Answer)
     → IsLongRenderedAnswer rendering x labels a → ComesOut outcome.Ordered a.outcome
-long_rendered_outcome Words x labels a is = long_one is.found a.outcome is.outcome
-long_rendered_outcome Picture x labels a is = long_one is.found a.outcome is.outcome
-long_rendered_outcome WholePicture x labels a is = long_one is.found a.outcome is.outcome
+long_rendered_outcome (Told telling) x labels a is = long_one is.found a.outcome is.outcome
 long_rendered_outcome Reduction x labels a is = long_reduced_outcome x labels a is
 
 -- and of the one that the bytes are

@@ -6,7 +6,7 @@ use Rattle.values_text.specs.Reading.{IsValuesReading}
 use Rattle.verdicts.specs.Refusal.{recording_line}
 use Rattle.verdicts.specs.declared.outcome.Outcome.TheVariants.{Refused}
 use Rattle.verdicts.specs.declared.printed.Answer.{Answer}
-use Rattle.answers.specs.Completion.{IsCompletionAnswer}
+use Rattle.program_answers.specs.Completion.{IsCompletionAnswer}
 use Rattle.tsotest_library.specs.Refused.{AreStatesRefused}
 
 -- what the values of a text come to, where no more states are seen

@@ -3,7 +3,7 @@ use Rattle.std.specs.Prelude.{◌≡◌, ◌⊎◌, ℕ, List, Ok}
 use Rattle.program.specs.Parts.{Parts}
 use Rattle.litmus.specs.Text.{reading}
 use Rattle.verdicts.specs.declared.printed.Answer.{Answer}
-use Rattle.answers.specs.Outcomes.{IsOutcomesAnswer}
+use Rattle.program_answers.specs.Outcomes.{IsOutcomesAnswer}
 use Rattle.tsotest_library.specs.Refused.{AreStatesRefused, IsLineRefused}
 
 -- the outcomes of the program of a text

@@ -4,8 +4,8 @@ ghost use Rattle.std.specs.Prelude.{IfOk};
 ghost use Rattle.tsotest_library.specs.Completed.{IsCompletedOf};
 
 use crate::states::states_refusal;
-use answers::completion_answer;
 use common::OutOfMemory;
+use program_answers::completion_answer;
 use std::alloc::Global;
 use values_text::read_values;
 use verdicts::{Answer, Outcome, recording_line};

@@ -3,7 +3,8 @@
 
 ghost use Rattle.std.specs.Prelude.{◌≡◌, ◌≢◌, ◌≤◌};
 ghost use Rattle.verdicts.specs.declared.outcome.Outcome.TheVariants.{Done, Ordered, Refused, Unfinished, Violation};
-ghost use Rattle.answers.specs.declared.rendering.Rendering.TheVariants.{Words, Reduction};
+ghost use Rattle.answers.specs.declared.rendering.Rendering.TheVariants.{Told, Reduction};
+ghost use Rattle.answers.specs.declared.rendering.Telling.TheVariants.{Words};
 ghost use Rattle.answers.specs.Rendered.{picture_form};
 ghost use Rattle.tsotest_library.specs.Given.{AreCodeNumbers, AreCodesAnswered, IsAnswered, IsNothing, IsWrittenWhole};
 ghost use Rattle.text_judge.specs.Answer.{IsLongAnswerOf};
@@ -22,7 +23,7 @@ mod listing;
 mod rendering;
 mod states;
 
-use answers::{Rendering, picture_form};
+use answers::{Rendering, Telling, picture_form};
 use common::VERSION_LINE;
 use std::alloc::Global;
 use surveys::codes_of_lines;
@@ -83,14 +84,19 @@ pub extern "C" fn tsotest_explain(
 ) -> u8
     ensures status { result ≤ 3 }
     ensures allowed { result ≡ 0 →
-        IsAnswered (IsRenderedOf Words recording.now program.now) Ordered out.old out.new len.new }
+        IsAnswered (IsRenderedOf (Told Words) recording.now program.now) Ordered out.old out.new len.new }
     ensures no_memory { result ≡ 1 → IsNothing out.old out.new len.new }
     ensures violation { result ≡ 2 →
-        IsAnswered (IsRenderedOf Words recording.now program.now) Violation out.old out.new len.new }
+        IsAnswered (IsRenderedOf (Told Words) recording.now program.now) Violation out.old out.new len.new }
     ensures refused { result ≡ 3 →
-        IsAnswered (IsRenderedOf Words recording.now program.now) Refused out.old out.new len.new }
+        IsAnswered (IsRenderedOf (Told Words) recording.now program.now) Refused out.old out.new len.new }
 {
-    let answer = rendering::rendered_answer_of(alloc, Rendering::Words, recording, program);
+    let answer = rendering::rendered_answer_of(
+        alloc,
+        Rendering::Told(Telling::Words),
+        recording,
+        program,
+    );
     buffers::put_answer(answer, out, len)
 }
 
@@ -107,14 +113,20 @@ pub extern "C" fn tsotest_draw(
 ) -> u8
     ensures status { result ≤ 3 }
     ensures allowed { result ≡ 0 →
-        IsAnswered (IsRenderedOf (picture_form all) recording.now program.now) Ordered out.old out.new len.new }
+        IsAnswered (IsRenderedOf (Told (picture_form all)) recording.now program.now) Ordered out.old out.new len.new }
     ensures no_memory { result ≡ 1 → IsNothing out.old out.new len.new }
     ensures violation { result ≡ 2 →
-        IsAnswered (IsRenderedOf (picture_form all) recording.now program.now) Violation out.old out.new len.new }
+        IsAnswered (IsRenderedOf (Told (picture_form all)) recording.now program.now) Violation out.old out.new
+        len.new }
     ensures refused { result ≡ 3 →
-        IsAnswered (IsRenderedOf (picture_form all) recording.now program.now) Refused out.old out.new len.new }
+        IsAnswered (IsRenderedOf (Told (picture_form all)) recording.now program.now) Refused out.old out.new len.new }
 {
-    let answer = rendering::rendered_answer_of(alloc, picture_form(all), recording, program);
+    let answer = rendering::rendered_answer_of(
+        alloc,
+        Rendering::Told(picture_form(all)),
+        recording,
+        program,
+    );
     buffers::put_answer(answer, out, len)
 }
 
@@ -149,14 +161,16 @@ pub extern "C" fn tsotest_explain_long(
     len: &mut usize,
 ) -> u8
     ensures status { result ≤ 3 }
-    ensures allowed { result ≡ 0 → IsAnswered (IsLongRenderedOf Words recording.now) Ordered out.old out.new len.new }
+    ensures allowed { result ≡ 0 →
+        IsAnswered (IsLongRenderedOf (Told Words) recording.now) Ordered out.old out.new len.new }
     ensures no_memory { result ≡ 1 → IsNothing out.old out.new len.new }
-    ensures violation { result ≡ 2 → IsAnswered (IsLongRenderedOf Words recording.now) Violation out.old out.new
-        len.new }
-    ensures refused { result ≡ 3 → IsAnswered (IsLongRenderedOf Words recording.now) Refused out.old out.new len.new }
+    ensures violation { result ≡ 2 →
+        IsAnswered (IsLongRenderedOf (Told Words) recording.now) Violation out.old out.new len.new }
+    ensures refused { result ≡ 3 →
+        IsAnswered (IsLongRenderedOf (Told Words) recording.now) Refused out.old out.new len.new }
 {
     buffers::put_answer(
-        rendering::long_rendered_answer_of(alloc, Rendering::Words, recording),
+        rendering::long_rendered_answer_of(alloc, Rendering::Told(Telling::Words), recording),
         out,
         len,
     )

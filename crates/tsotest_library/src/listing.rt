@@ -4,9 +4,9 @@ ghost use Rattle.std.specs.Prelude.{IfOk};
 ghost use Rattle.tsotest_library.specs.Listed.{IsListedOf};
 
 use crate::states::states_refusal;
-use answers::outcomes_answer;
 use common::OutOfMemory;
 use litmus::{LitmusError, line_refusal_name, parse, refusal_line};
+use program_answers::outcomes_answer;
 use std::alloc::Global;
 use verdicts::{Answer, Outcome};
 

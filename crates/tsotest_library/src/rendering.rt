@@ -11,7 +11,7 @@ use litmus::{LitmusError, line_refusal_name, parse, refusal_line};
 use program::Program;
 use program_events::is_program_of;
 use recording::{Recording, RecordingSize};
-use refusals::{N9, refused};
+use refusals::{N9, line_of_name};
 use std::alloc::Global;
 use text_judge::{read_or_refuse, read_or_refuse_of};
 use verdicts::{Answer, Outcome};
@@ -30,7 +30,7 @@ fn own_program(
             if is_program_of(&program, recording) {
                 return Ok(Ok(program));
             }
-            let line = refused(alloc, N9.name)?;
+            let line = line_of_name(alloc, N9.name)?;
             Ok(Err(Answer {
                 outcome: Outcome::Refused,
                 text: line.into_bytes(),

@@ -5,7 +5,7 @@ ghost use Rattle.tsotest_library.specs.Refused.{AreStatesRefused};
 
 use common::OutOfMemory;
 use program::is_outside;
-use refusals::{K12, refused};
+use refusals::{K12, line_of_name};
 use std::alloc::Global;
 use verdicts::{Answer, Outcome};
 
@@ -17,7 +17,7 @@ pub(crate) fn states_refusal(alloc: Global, states: usize) -> Result<Option<Answ
     ensures { IfOk result (λ refusal. IfSome refusal (AreStatesRefused states)) }
 {
     if is_outside(MAX_STATES, states) {
-        let line = refused(alloc, K12.name)?;
+        let line = line_of_name(alloc, K12.name)?;
         return Ok(Some(Answer {
             outcome: Outcome::Refused,
             text: line.into_bytes(),

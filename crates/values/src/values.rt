@@ -36,7 +36,7 @@ impl Model for Values {
 }
 
 /// An event without its source.
-fn unsourced(event: Event) -> Event
+fn without_source(event: Event) -> Event
     ensures { result ≡ unsourced event }
 {
     match event {
@@ -54,7 +54,7 @@ fn strip(alloc: Global, events: &[Event]) -> Result<Vec<Event>, OutOfMemory>
 {
     let mut stripped = Vec::with_capacity(alloc, events.len())?;
     for event in events {
-        stripped.push(unsourced(*event))?;
+        stripped.push(without_source(*event))?;
     }
     Ok(stripped)
 }

@@ -99,9 +99,7 @@ fn values_of(alloc: Global, contents: Parsed) -> Result<Values, RecError>
     if contents.version != 3 {
         return Err(RecError::Version);
     }
-    let Ok(values) = told_values(alloc, contents) else {
-        return Err(RecError::OutOfMemory);
-    };
+    let values = told_values(alloc, contents)?;
     match values.refusal() {
         Some(refusal) => Err(refusal),
         None => Ok(values),
@@ -129,10 +127,7 @@ fn contents_of(alloc: Global, bytes: &[u8]) -> Result<Parsed, RecError>
     ensures err { IfErr result (λ e. IsValuesReading bytes.now (Err e)) }
 {
     let value = tree_of(alloc, bytes)?;
-    let Ok(found) = shape_in(alloc, &value) else {
-        return Err(RecError::OutOfMemory);
-    };
-    let Some(found) = found else {
+    let Some(found) = shape_in(alloc, &value)? else {
         return Err(RecError::Shape);
     };
     Ok(found)

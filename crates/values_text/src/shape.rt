@@ -35,7 +35,7 @@ impl ReadMembers {
 
     /// The contents of an object with this many members.
     #[tactic(auto, unfolding(crate::specs::Reading::values_contents))]
-    fn found(self, keys: usize) -> Option<Parsed>
+    fn into_contents(self, keys: usize) -> Option<Parsed>
         ensures { option_map parsed_values result ≡ values_contents keys self.version
             (option_map (λ v. map (λ w. w.items) v.items) self.cores) (option_map (λ v. v.items) self.init)
             (option_map (λ v. v.items) self.final_values) }
@@ -138,5 +138,5 @@ pub(crate) fn shape_in(alloc: Global, value: &Value) -> Result<Option<Parsed>, A
         init: list_at(alloc, value, "init")?,
         final_values: list_at(alloc, value, "final")?,
     };
-    Ok(read_members.found(keys))
+    Ok(read_members.into_contents(keys))
 }

@@ -115,7 +115,7 @@ pub(crate) fn long_fault(
     let mut rest = Cursor::new(text);
     if rest.take(b"cycle of ") {
         let mut lines = Vec::new(alloc);
-        let most = rest.left();
+        let most = rest.bytes_left();
         let _size = put_cycle_that_holds(&mut lines, places, &mut rest, most)?;
         return Ok(first_difference(text, &lines));
     }

@@ -78,7 +78,7 @@ pub(crate) fn take_natural(rest: &mut Cursor<'_>) -> Option<u64>
     Some(n)
 }
 
-fn clipped(n: u64) -> u32
+fn clip_number(n: u64) -> u32
     ensures { result ≡ clip n }
 {
     u32::try_from(n).unwrap_or(u32::MAX)
@@ -89,7 +89,7 @@ pub(crate) fn take_number(rest: &mut Cursor<'_>) -> Option<u32>
     ensures { IfSome result (λ n. (depth : ℕ)
         → GivesValue clipped_number depth (value_tokens rest.old) n (later_tokens rest.new)) }
 {
-    Some(clipped(take_natural(rest)?))
+    Some(clip_number(take_natural(rest)?))
 }
 
 fn word(n: u64) -> Option<u32>

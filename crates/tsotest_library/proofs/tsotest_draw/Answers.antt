@@ -1,5 +1,6 @@
 use Rattle.std.proofs.Common.{refl}
 use Rattle.verdicts.specs.declared.outcome.Outcome.TheVariants as outcome
+use Rattle.answers.specs.declared.rendering.Rendering.TheVariants.{Told}
 use Rattle.answers.specs.Rendered.{picture_form}
 use Rattle.tsotest_library.specs.Rendered.{IsRenderedOf}
 use Rattle.tsotest_library.proofs.Outcomes.{rendered_of_outcome}
@@ -8,24 +9,24 @@ use Rattle.tsotest_library.proofs.tsotest_draw.Goals as goal
 
 pub returns-clause-allowed : goal.returns-clause-allowed
 returns-clause-allowed c zero =
-    put_0 outcome.Ordered refl (rendered_of_outcome (picture_form c.args.all) c.args.recording.now c.args.program.now)
-    (put_by (IsRenderedOf (picture_form c.args.all) c.args.recording.now c.args.program.now)
+    put_0 outcome.Ordered refl (rendered_of_outcome (Told (picture_form c.args.all)) c.args.recording.now c.args.program.now)
+    (put_by (IsRenderedOf (Told (picture_form c.args.all)) c.args.recording.now c.args.program.now)
     c.rendered_answer_of-answer.result c.put_answer.result c.args.out.now c.put_answer.new.out c.put_answer.new.len
     (rw c.picture_form.ensures at c.rendered_answer_of-answer.ensures) c.put_answer.ensures.given
     c.put_answer.ensures.written c.put_answer.ensures.error c.put_answer.ensures.nothing) zero
 
 pub returns-clause-violation : goal.returns-clause-violation
 returns-clause-violation c two =
-    put_2 outcome.Ordered refl (rendered_of_outcome (picture_form c.args.all) c.args.recording.now c.args.program.now)
-    (put_by (IsRenderedOf (picture_form c.args.all) c.args.recording.now c.args.program.now)
+    put_2 outcome.Ordered refl (rendered_of_outcome (Told (picture_form c.args.all)) c.args.recording.now c.args.program.now)
+    (put_by (IsRenderedOf (Told (picture_form c.args.all)) c.args.recording.now c.args.program.now)
     c.rendered_answer_of-answer.result c.put_answer.result c.args.out.now c.put_answer.new.out c.put_answer.new.len
     (rw c.picture_form.ensures at c.rendered_answer_of-answer.ensures) c.put_answer.ensures.given
     c.put_answer.ensures.written c.put_answer.ensures.error c.put_answer.ensures.nothing) two
 
 pub returns-clause-refused : goal.returns-clause-refused
 returns-clause-refused c three =
-    put_3 outcome.Ordered refl (rendered_of_outcome (picture_form c.args.all) c.args.recording.now c.args.program.now)
-    (put_by (IsRenderedOf (picture_form c.args.all) c.args.recording.now c.args.program.now)
+    put_3 outcome.Ordered refl (rendered_of_outcome (Told (picture_form c.args.all)) c.args.recording.now c.args.program.now)
+    (put_by (IsRenderedOf (Told (picture_form c.args.all)) c.args.recording.now c.args.program.now)
     c.rendered_answer_of-answer.result c.put_answer.result c.args.out.now c.put_answer.new.out c.put_answer.new.len
     (rw c.picture_form.ensures at c.rendered_answer_of-answer.ensures) c.put_answer.ensures.given
     c.put_answer.ensures.written c.put_answer.ensures.error c.put_answer.ensures.nothing) three

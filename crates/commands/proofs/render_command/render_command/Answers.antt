@@ -36,15 +36,15 @@ returns-in_err-labels-clause-reads g c = let o = c.args.options.now in
     (stopped_last c.from_residual-in_err-labels.result (labels_names o) c.in_err-labels.field-0.0 _ _
     c.in_err-labels.ensures.reads c.from_residual-in_err-labels.ensures.1))
 
-pub returns-in_err-rendered-clause-reads : goal.returns-in_err-rendered-clause-reads
-returns-in_err-rendered-clause-reads g c = let o = c.args.options.now in
-    memory_stopped c.from_residual-in_err-rendered.result _ _ _
+pub returns-in_err-render-clause-reads : goal.returns-in_err-render-clause-reads
+returns-in_err-render-clause-reads g c = let o = c.args.options.now in
+    memory_stopped c.from_residual-in_err-render.result _ _ _
     (read_then (file_name o) (program_names o ++ labels_names o) (g.H.Host.log c.args.host.now)
     (g.H.Host.log c.recording_at.new.host) (g.H.Host.log c.labels_given.new.host)
     (rw c.as_str.ensures.value at c.in_ok-recording.ensures.reads)
     (read_then (program_names o) (labels_names o) (g.H.Host.log c.recording_at.new.host)
     (g.H.Host.log c.program_given.new.host) (g.H.Host.log c.labels_given.new.host)
-    c.in_ok-program.ensures.reads c.in_ok-labels.ensures.reads)) c.from_residual-in_err-rendered.ensures.1
+    c.in_ok-program.ensures.reads c.in_ok-labels.ensures.reads)) c.from_residual-in_err-render.ensures.1
 
 pub returns-clause-reads : goal.returns-clause-reads
 returns-clause-reads g c = let o = c.args.options.now in
@@ -55,5 +55,5 @@ returns-clause-reads g c = let o = c.args.options.now in
     (g.H.Host.log c.program_given.new.host) (g.H.Host.log c.labels_given.new.host)
     c.in_ok-program.ensures.reads c.in_ok-labels.ensures.reads)
 
-pub rendered-requires-clause-within : goal.rendered-requires-clause-within
-rendered-requires-clause-within g c = c.in_ok-recording.ensures.ok.read.3
+pub render-requires-clause-within : goal.render-requires-clause-within
+render-requires-clause-within g c = c.in_ok-recording.ensures.ok.read.3

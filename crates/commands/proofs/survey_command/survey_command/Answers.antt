@@ -8,8 +8,8 @@ use Rattle.commands.specs.Headed.{IsHeaded}
 use Rattle.commands.proofs.Given.{lines_given}
 use Rattle.commands.proofs.survey_command.survey_command.Goals as goal
 
-pub returns-in_ok-headed-in-None-clause-ok : goal.returns-in_ok-headed-in-None-clause-ok
-returns-in_ok-headed-in-None-clause-ok g c =
+pub returns-in_ok-with_header-in-None-clause-ok : goal.returns-in_ok-with_header-in-None-clause-ok
+returns-in_ok-with_header-in-None-clause-ok g c =
     let (findings, surveyed, told) = c.in_ok-ledger-in-None.ensures.ok in
     let counts = c.in_ok-counts-in-None.counts in rw c.in-None.is (
       λ each. c.requires.told (each, c.in-None.is),
@@ -18,12 +18,12 @@ returns-in_ok-headed-in-None-clause-ok g c =
       surveyed,
       counts,
       c.in_ok-counts-in-None.ensures,
-      subst (λ (header : Option Header). IsHeaded header counts c.in_ok-headed-in-None.field-0) c.survey_header.ensures
-          c.in_ok-headed-in-None.ensures,
+      subst (λ (header : Option Header). IsHeaded header counts c.in_ok-with_header-in-None.field-0) c.survey_header.ensures
+          c.in_ok-with_header-in-None.ensures,
     )
 
-pub returns-in_ok-shown-in-Ok-Some-clause-ok : goal.returns-in_ok-shown-in-Ok-Some-clause-ok
-returns-in_ok-shown-in-Ok-Some-clause-ok g c =
+pub returns-in_ok-answer_to_line-in-Ok-Some-clause-ok : goal.returns-in_ok-answer_to_line-in-Ok-Some-clause-ok
+returns-in_ok-answer_to_line-in-Ok-Some-clause-ok g c =
     let r = rw c.in-Ok-Some.field-0-is at c.in-Ok-Some.ensures.read in
     let new = c.new-lines.ensures in
     let given = lines_given c.range_of.result _ _ (g.H.Host.bytes c.args.host.now c.as_str.result.now) _ _ r.bytes
@@ -35,5 +35,5 @@ returns-in_ok-shown-in-Ok-Some-clause-ok g c =
           c.range_of.ensures given),
       c.as_slice.result.now,
       rw c.as_slice.ensures.value r.is,
-      c.in_ok-shown-in-Ok-Some.ensures,
+      c.in_ok-answer_to_line-in-Ok-Some.ensures,
     )

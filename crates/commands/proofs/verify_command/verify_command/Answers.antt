@@ -26,12 +26,12 @@ returns-clause-reads g c =
     (rw c.as_str.ensures.value at c.in_ok-recording.ensures.reads)
     (rw c.as_str-2.ensures.value at c.in_ok-text.ensures.reads)
 
-pub returns-in_err-checked-clause-reads : goal.returns-in_err-checked-clause-reads
-returns-in_err-checked-clause-reads g c = memory_stopped c.from_residual-in_err-checked.result _ _ _
+pub returns-in_err-text_answer-clause-reads : goal.returns-in_err-text_answer-clause-reads
+returns-in_err-text_answer-clause-reads g c = memory_stopped c.from_residual-in_err-text_answer.result _ _ _
     (read_then (string_bytes c.args.options.now.recording ∷ []) (string_bytes c.args.options.now.verdict ∷ [])
     (g.H.Host.log c.args.host.now) (g.H.Host.log c.recording_at.new.host) (g.H.Host.log c.text_at.new.host)
     (rw c.as_str.ensures.value at c.in_ok-recording.ensures.reads)
-    (rw c.as_str-2.ensures.value at c.in_ok-text.ensures.reads)) c.from_residual-in_err-checked.ensures.1
+    (rw c.as_str-2.ensures.value at c.in_ok-text.ensures.reads)) c.from_residual-in_err-text_answer.ensures.1
 
-pub checked-requires : goal.checked-requires
-checked-requires g c = (c.type_bounds.sync-R, c.in_ok-recording.ensures.ok.read.3)
+pub text_answer-requires : goal.text_answer-requires
+text_answer-requires g c = (c.type_bounds.sync-R, c.in_ok-recording.ensures.ok.read.3)

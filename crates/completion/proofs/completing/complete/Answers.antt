@@ -22,7 +22,7 @@ returns-then-not-have_room c = (
   tt,
 )
 
-pub searched-requires-clause-forced : goal.searched-requires-clause-forced
-searched-requires-clause-forced c = subst (λ (l : List (List Bool)). AreForced c.args.values.now l)
+pub search_answer-requires-clause-forced : goal.search_answer-requires-clause-forced
+search_answer-requires-clause-forced c = subst (λ (l : List (List Bool)). AreForced c.args.values.now l)
     (sym c.deref-3.ensures.value)
     (λ e f pair. shown_forced c.args.values.now e f (c.in_ok-inferred.ensures.shown e f pair))

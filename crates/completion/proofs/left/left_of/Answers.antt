@@ -5,8 +5,8 @@ use Rattle.completion.proofs.Alone.{table_size}
 use Rattle.completion.proofs.Fed.{numbers_same, row_below}
 use Rattle.completion.proofs.left.left_of.Goals as goal
 
-pub restricted-requires-clause-same : goal.restricted-requires-clause-same
-restricted-requires-clause-same c = subst (λ (ks : List ℕ). (e : ℕ) → IsMember ks e ↔ IsInRow c.drop_all_unfed.new.row e)
+pub restrict_to-requires-clause-same : goal.restrict_to-requires-clause-same
+restrict_to-requires-clause-same c = subst (λ (ks : List ℕ). (e : ℕ) → IsMember ks e ↔ IsInRow c.drop_all_unfed.new.row e)
     (sym c.deref.ensures.value)
     (numbers_same c.drop_all_unfed.new.row c.in_ok-events.events.items c.in_ok-events.ensures)
 

@@ -12,6 +12,7 @@ use Rattle.completion.specs.Seen.{Grows, HasNumber, IsTaken, IsVain}
 use Rattle.completion.specs.Situation.{beginning, moved}
 use Rattle.situations.specs.Situation.{Situation}
 use Rattle.completion.proofs.Rank.{rank, most_rank}
+use Rattle.completion.proofs.Comes.{come_by}
 use Rattle.completion.proofs.Vain.{all_vain, buried_dead, buried_grows, buried_searched, grows_on, popped, step_comes}
 use Rattle.completion.proofs.Vain.{step_falls, vain_still}
 use Rattle.completion.proofs.search.+explore.Goals as goal
@@ -34,7 +35,7 @@ explore-requires t c =
     let old : Seen = c.args.way.now.seen in
     let seen : Seen = c.loop-turn.way.seen in
     let new : Seen = c.reach.new.way.seen in
-    let row = c.in_ok-reach.ensures.row c.in-Row.next c.in-Row.is in
+    let row = rw c.in-Row.is at c.in_ok-reach.ensures.next in
     let here : HasNumber seen c.in_ok-row.row c.args.number =
     c.loop-turn.invariant.grows.rows c.in_ok-row.row c.args.number c.in_ok-row.ensures in
     let leads = leads_by v seen c.in_ok-row.row c.args.number _ _ here row.0 in
@@ -111,8 +112,8 @@ returns-clause-searched t c =
     ap (λ (l : List Turn). get_or l there.0 u) items ∙ there.2 in
     subst (λ (z : Turn). IsVain v seen r z.step z.core) is vain) move d)
 
-pub returns-clause-dead : goal.returns-clause-dead
-returns-clause-dead t c is = (
+pub returns-clause-come : goal.returns-clause-come
+returns-clause-come t c = (
   c.loop-turn.invariant.turns,
   λ r was.
       let at : HasNumber c.loop-turn.way.seen r c.args.number = c.loop-turn.invariant.grows.rows r c.args.number was in
@@ -137,7 +138,7 @@ loop-turn-preserved t c =
     elim c.match-branch-4.branch [
       | in-Vain w ↦
           let first : Turn = record { step = Modify; core = 0 } in
-          let vain = c.in_ok-reach.ensures.vain w.in-Vain.is in
+          let vain = rw w.in-Vain.is at c.in_ok-reach.ensures.next in
           rw w.way'-is (record {
             searched = c.in_ok-reach.ensures.searched;
             grows = grows_on c.args.way.now.seen seen c.reach.new.way.seen inv.grows c.in_ok-reach.ensures.grows;
@@ -154,8 +155,8 @@ loop-turn-preserved t c =
           })
       | in-Row+in_ok-came-in-Row+in-Dead w ↦
           let new : Seen = w.explore.new.way.seen in
-          let row = c.in_ok-reach.ensures.row w.in-Row.next w.in-Row.is in
-          let dead = w.in_ok-came-in-Row.ensures.dead w.in-Dead.is in
+          let row = rw w.in-Row.is at c.in_ok-reach.ensures.next in
+          let dead = rw w.in-Dead.is at w.in_ok-came-in-Row.ensures.come in
           let grows : Grows seen new =
           grows_on seen c.reach.new.way.seen new c.in_ok-reach.ensures.grows w.in_ok-came-in-Row.ensures.grows in
           rw w.way'-is (record {
@@ -191,8 +192,7 @@ returns-in_default t c =
           c.in_ok-came-in-Row.ensures.grows);
       limit = c.explore.ensures.limit ∙ limit;
       most = c.explore.ensures.most ∙ most;
-      dead = λ is. absurd (c.in_default.not-Dead is);
-      end = c.in_ok-came-in-Row.ensures.end;
-      stopped = λ is. subst (λ (n : ℕ). n < 2 ^ 64 - 1) most (c.in_ok-came-in-Row.ensures.stopped is);
-      full = λ is. subst (HasMore v) limit (c.in_ok-came-in-Row.ensures.full is);
+      come = come_by v _ _ _ _ _ _ _ c.in_ok-came-in-Row.came
+          (λ is. absurd (c.in_default.not-Dead is)) (λ _. subst (λ (n : ℕ). n < 2 ^ 64 - 1) most) limit
+          c.in_ok-came-in-Row.ensures.come;
     }

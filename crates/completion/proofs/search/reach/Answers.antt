@@ -21,8 +21,8 @@ number-requires c =
     (led_to c.args.values.now c.args.way.now.turns.items c.args.row.now c.in-Some.next c.args.turn c.requires.comes
     (sym c.in_ok-next.ensures ∙ c.in-Some.is))
 
-pub returns-then-is_end-clause-end : goal.returns-then-is_end-clause-end
-returns-then-is_end-clause-end c _ = (
+pub returns-then-is_end-clause-next : goal.returns-then-is_end-clause-next
+returns-then-is_end-clause-next c = (
   c.in-Some.next,
   ap (λ (l : List Turn). after_moves c.args.values.now (beginning c.args.values.now) l) c.in_ok-push-2.ensures.items
       ∙ way_on c.args.values.now c.args.way.now.turns.items c.args.row.now c.in-Some.next c.args.turn
@@ -35,15 +35,10 @@ add-requires-clause-led c =
     led_to c.args.values.now c.args.way.now.turns.items c.args.row.now c.in-Some.next c.args.turn c.requires.comes
     (sym c.in_ok-next.ensures ∙ c.in-Some.is)
 
-pub returns-in-Some-2-clause-row : goal.returns-in-Some-2-clause-row
-returns-in-Some-2-clause-row c i is =
-    let number : c.in-Some-2.number ≡ i = cc in
-    let row = subst (λ (o : Option ℕ). IfSome o (λ k. HasNumber c.add.new.way.seen c.in-Some.next k
-    × (c.add.new.way.turns.items ≡ c.args.way.now.turns.items ++ c.args.turn ∷ []))) c.in-Some-2.is
-    c.in_ok-number.ensures.row in
-    let there : HasNumber c.add.new.way.seen c.in-Some.next i =
-    subst (λ (k : ℕ). HasNumber c.add.new.way.seen c.in-Some.next k) number row.0 in (
-      sym c.in_ok-next.ensures ∙ (c.in-Some.is ∙ sym there),
-      slice_get_within c.add.new.way.seen.rows.keys i c.in-Some.next there,
-      row.1,
+pub returns-in-Some-2-clause-next : goal.returns-in-Some-2-clause-next
+returns-in-Some-2-clause-next c =
+    let added = rw c.in-Some-2.is at c.in_ok-number.ensures.row in (
+      sym c.in_ok-next.ensures ∙ (c.in-Some.is ∙ sym added.0),
+      slice_get_within c.add.new.way.seen.rows.keys c.in-Some-2.number c.in-Some.next added.0,
+      added.1,
     )

@@ -28,8 +28,8 @@ store_there v row core from place events waits x es drained at are found =
 pub drain-requires : goal.drain-requires
 drain-requires c = omega (
   arith,
-  store_there c.args.values.now c.args.row.now c.args.core c.drained-from.result c.place.result c.events.result.now
-      c.between-waiting.result.now c.in-Some.store c.events.ensures c.drained-from.ensures.value c.place.ensures.value
+  store_there c.args.values.now c.args.row.now c.args.core c.drained_place-from.result c.place.result c.events.result.now
+      c.between-waiting.result.now c.in-Some.store c.events.ensures c.drained_place-from.ensures.value c.place.ensures.value
       c.between-waiting.ensures (sym c.oldest.ensures.value ∙ c.in-Some.is),
   core_small c.args.values.now c.requires.room c.args.core,
 )
@@ -41,6 +41,6 @@ write-requires-clause-cores c =
 
 pub write-requires-clause-there : goal.write-requires-clause-there
 write-requires-clause-there c =
-    store_there c.args.values.now c.args.row.now c.args.core c.drained-from.result c.place.result c.events.result.now
-    c.between-waiting.result.now c.in-Some.store c.events.ensures c.drained-from.ensures.value c.place.ensures.value
+    store_there c.args.values.now c.args.row.now c.args.core c.drained_place-from.result c.place.result c.events.result.now
+    c.between-waiting.result.now c.in-Some.store c.events.ensures c.drained_place-from.ensures.value c.place.ensures.value
     c.between-waiting.ensures (sym c.oldest.ensures.value ∙ c.in-Some.is)

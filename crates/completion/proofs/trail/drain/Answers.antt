@@ -22,12 +22,12 @@ returns c s is =
     let es : List Event = events_of v.cores core in
     let x : Waiting = c.in-Some.store in
     let waits : c.between-waiting.result.now ≡ waiting v.cores row core =
-    c.between-waiting.ensures ∙ (ap (λ (l : List Event). between l c.drained-from.result c.place.result) c.events.ensures
-    ∙ (ap (λ (n : ℕ). between es n c.place.result) c.drained-from.ensures.value
+    c.between-waiting.ensures ∙ (ap (λ (l : List Event). between l c.drained_place-from.result c.place.result) c.events.ensures
+    ∙ (ap (λ (n : ℕ). between es n c.place.result) c.drained_place-from.ensures.value
     ∙ ap (λ (n : ℕ). between es (drained_of row core) n) c.place.ensures.value)) in
     let found : oldest stored_by_event (drained_of row core) (waiting v.cores row core) ≡ Some x =
     sym (ap (λ (l : List Event). oldest stored_by_event (drained_of row core) l) waits)
-    ∙ (sym (ap (λ (n : ℕ). oldest stored_by_event n c.between-waiting.result.now) c.drained-from.ensures.value)
+    ∙ (sym (ap (λ (n : ℕ). oldest stored_by_event n c.between-waiting.result.now) c.drained_place-from.ensures.value)
     ∙ (sym c.oldest.ensures.value ∙ c.in-Some.is)) in
     let made : s ≡ written v (with_drained row core (x.place + 1)) core x.place x.address x.value =
     sym (same_Some _ s (sym (ap (drained_by v row core) found) ∙ is)) in

@@ -12,11 +12,11 @@ event_number-requires-clause-there c =
     let es : List Event = events_of c.args.values.now.cores c.args.core in
     let d : ℕ = drained_of c.args.row.now c.args.core in
     let seen : c.between-seen.result.now ≡ between es d c.args.place =
-    c.between-seen.ensures ∙ (ap (λ (l : List Event). between l c.drained-from.result c.args.place) c.events.ensures
-    ∙ ap (λ (n : ℕ). between es n c.args.place) c.drained-from.ensures.value) in
+    c.between-seen.ensures ∙ (ap (λ (l : List Event). between l c.drained_place-from.result c.args.place) c.events.ensures
+    ∙ ap (λ (n : ℕ). between es n c.args.place) c.drained_place-from.ensures.value) in
     let is : youngest stored_by_event c.args.address None d (between es d c.args.place) ≡ Some c.in-Some.own =
     sym (ap (λ (l : List Event). youngest stored_by_event c.args.address None d l) seen)
-    ∙ (sym (ap (λ (n : ℕ). youngest stored_by_event c.args.address None n c.between-seen.result.now) c.drained-from.ensures.value)
+    ∙ (sym (ap (λ (n : ℕ). youngest stored_by_event c.args.address None n c.between-seen.result.now) c.drained_place-from.ensures.value)
     ∙ (sym c.youngest.ensures ∙ c.in-Some.is)) in
     omega (
       arith,

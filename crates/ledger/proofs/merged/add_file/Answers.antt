@@ -9,20 +9,20 @@ texts-init c =
 
 pub texts-preserved : goal.texts-preserved
 texts-preserved c =
-    let some = not_none c.texts.rest (omega (arith, c.texts-test.true, c.left.ensures)) in
+    let some = not_none c.texts.rest (omega (arith, c.texts-test.true, c.bytes_left.ensures)) in
     text_more c.args.kind c.args.sum.now c.texts.sum _ c.args.bytes.now c.texts.rest _ some c.texts.invariant
     c.in_default.ensures.ok
 
 pub returns-in-Err-clause-err : goal.returns-in-Err-clause-err
 returns-in-Err-clause-err c =
-    let some = not_none c.texts.rest (omega (arith, c.texts-test.true, c.left.ensures)) in
+    let some = not_none c.texts.rest (omega (arith, c.texts-test.true, c.bytes_left.ensures)) in
     text_fault c.args.kind c.args.sum.now c.texts.sum c.args.bytes.now c.texts.rest c.in-Err.fault c.requires.codes some
     c.texts.invariant c.requires.is c.in-Err.ensures.err
 
 pub returns-clause-ok : goal.returns-clause-ok
 returns-clause-ok c =
     let some : c.args.bytes.now ≢ [] = not_none c.args.bytes.now (search rules) in
-    let none : c.texts.rest ≡ [] = all_none c.texts.rest (omega (arith, c.texts-test.false, c.left.ensures)) in
+    let none : c.texts.rest ≡ [] = all_none c.texts.rest (omega (arith, c.texts-test.false, c.bytes_left.ensures)) in
     ended c.args.kind c.args.sum.now c.texts.sum c.args.bytes.now some
     (subst (λ (l : List ℕ). AreUnderWay c.args.kind c.args.sum.now c.texts.sum c.args.bytes.now l) none
     c.texts.invariant)

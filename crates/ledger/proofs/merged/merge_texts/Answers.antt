@@ -10,10 +10,10 @@ returns-in-Err-clause-err c =
     let some : length files ≡ length c.args.files.now = length-map c.args.files.now (λ v. v.now) in
     let first = sym c.text_at.ensures in
     let bytes = c.text_at-bytes.ensures in
-    file_fault c.of-kind.result c.loop-i.sum files c.text_at.result.now c.loop-i.i c.in-Err.fault c.located.result
+    file_fault c.of-kind.result c.loop-i.sum files c.text_at.result.now c.loop-i.i c.in-Err.fault c.error_of_file.result
     (omega (arith, some)) first c.of-kind.ensures c.loop-i.invariant
     (subst (λ (l : List ℕ). IsFileError c.of-kind.result c.loop-i.sum l c.in-Err.fault) bytes c.in-Err.ensures.err)
-    c.located.ensures
+    c.error_of_file.ensures
 
 pub loop-i-preserved : goal.loop-i-preserved
 loop-i-preserved c =

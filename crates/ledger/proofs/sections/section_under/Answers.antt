@@ -20,15 +20,15 @@ pub returns-in-Ok-clause-ok : goal.returns-in-Ok-clause-ok
 returns-in-Ok-clause-ok c =
     let f = c.in-Ok.ensures.ok in
     let own = cut c.args.header f.0 c.rest-text.result.now c.args.rest.now c.counts_under.new.rest
-    c.left-counts.result c.left.result c.rest-text.ensures c.left-counts.ensures c.left.ensures f.1 in
+    c.bytes_left-counts.result c.bytes_left.result c.rest-text.ensures c.bytes_left-counts.ensures c.bytes_left.ensures f.1 in
     (refl, (f.1.begins).text ∙ ap (λ (l : List ℕ). l ++ c.counts_under.new.rest) (sym own))
 
 pub invariant_of-result : goal.invariant_of-result
 invariant_of-result c =
     let f = c.in-Ok.ensures.ok in
     let own = cut c.args.header f.0 c.rest-text.result.now c.args.rest.now c.counts_under.new.rest
-    c.left-counts.result c.left.result c.rest-text.ensures c.left-counts.ensures c.left.ensures f.1 in
-    let text : List ℕ = take (c.left-counts.result - c.left.result) c.rest-text.result.now in
+    c.bytes_left-counts.result c.bytes_left.result c.rest-text.ensures c.bytes_left-counts.ensures c.bytes_left.ensures f.1 in
+    let text : List ℕ = take (c.bytes_left-counts.result - c.bytes_left.result) c.rest-text.result.now in
     subst (λ (v : Option ℕ). IsSection (record { header = c.args.header; text = text; violation = v })) (sym f.3)
     (section_of (kind_of c.args.header.counted) c.args.header text c.args.rest.now c.counts_under.new.rest f.0 refl
     c.requires f.1 own f.2)

@@ -12,10 +12,10 @@ returns-in-Err-clause-err c =
     let some : length files ≡ length c.args.files.now = length-map c.args.files.now (λ v. v.items) in
     let bytes = c.as_slice-bytes.ensures.value
     ∙ bytes_at c.args.files.now c.loop-i.i c.index-files-i.result (omega arith) c.index-files-i.is in
-    unread_located files c.loop-i.found.items c.loop-i.i c.in-Err.error c.located.result (omega (arith, some))
+    unread_located files c.loop-i.found.items c.loop-i.i c.in-Err.error c.error_of_file.result (omega (arith, some))
     (record { are = c.loop-i.invariant.are; alike = c.loop-i.invariant.alike })
     (subst (λ (l : List ℕ). IsUnreadFile c.loop-i.found.items l c.in-Err.error) bytes c.in-Err.ensures.err)
-    c.located.ensures
+    c.error_of_file.ensures
 
 pub loop-i-preserved : goal.loop-i-preserved
 loop-i-preserved c =

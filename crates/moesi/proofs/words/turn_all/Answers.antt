@@ -16,12 +16,12 @@ loop-preserved c =
     let b : Block = block_in c.args.cores c.args.addresses c.args.words.now c.args.addr in
     record {
       place = next_place c.loop.counter c.args.addresses c.args.addr c.loop.at c.loop.invariant.place;
-      size = length-set c.loop.words c.loop.at c.turned.result ∙ c.loop.invariant.size;
+      size = length-set c.loop.words c.loop.at c.turn_word.result ∙ c.loop.invariant.size;
       turns = turns_more c.args.cores c.args.addresses s c.loop.words c.loop.counter c.args.addr
-          c.loop.at c.turned.result (turned c.args.turn) b (c.loop.invariant.size ∙ c.requires.words) (omega arith)
+          c.loop.at c.turn_word.result (turned c.args.turn) b (c.loop.invariant.size ∙ c.requires.words) (omega arith)
           c.requires.address (omega (arith, blocks_length c.args.cores c.args.addresses c.args.words.now))
           (omega (arith, lines_length c.args.cores c.args.addresses c.args.words.now c.args.addr))
-          c.loop.invariant.place c.turned.ensures c.loop.invariant.turns;
+          c.loop.invariant.place c.turn_word.ensures c.loop.invariant.turns;
     }
 
 pub loop-init : goal.loop-init

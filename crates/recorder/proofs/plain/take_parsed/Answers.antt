@@ -9,7 +9,7 @@ use Rattle.recorder.proofs.SpacedTokens.{opens_object}
 use Rattle.recorder.proofs.plain.take_parsed.Goals as goal
 
 pub returns : goal.returns
-returns c = known c.found.result (λ q found.
+returns c = known c.into_contents.result (λ q found.
     let all = fresh_tokens c.take_sign.new.rest in
     let p = c.in-Some.read_members in
     let members : GivesMembers (AreParts c.args.size) 126 all (later_tokens c.take_members.new.rest) p =
@@ -17,8 +17,8 @@ returns c = known c.found.result (λ q found.
     let known : GivesMembers (AreParts c.args.size) 126 all [] p =
     subst (λ (r : List Token). GivesMembers (AreParts c.args.size) 126 all r p) (c.if-not-is_over.ensures refl)
     members in
-    let is = found_gives c.args.size p c.len-keys.result known.found c.found.result q known.are c.len-keys.ensures
-    c.found.ensures found in (
+    let is = found_gives c.args.size p c.len-keys.result known.found c.into_contents.result q known.are c.len-keys.ensures
+    c.into_contents.ensures found in (
       is.0,
       gives_object_of (AreParts c.args.size) clipped_contents 126 (value_tokens c.args.rest.now) all [] p is.0
           (opens_object c.args.rest.now c.take_sign.new.rest (c.if-not-take_sign.ensures.found refl)) known is.1,

@@ -15,11 +15,11 @@ returns-then-not-is_versioned c bytes read_members =
 pub returns : goal.returns
 returns c bytes read_members =
     let q = model_of c.args.contents in
-    let values : c.in-Ok.init.items ≡ initial_values q.values q.write_lists =
-    c.in-Ok.ensures ∙ ap (λ (lists : List (Vec ℕ Global)). initial_values q.values
+    let values : c.in_ok-init.init.items ≡ initial_values q.values q.write_lists =
+    c.in_ok-init.ensures ∙ ap (λ (lists : List (Vec ℕ Global)). initial_values q.values
     (map (λ v. v.items) lists)) c.as_slice.ensures.value in
     answers_held c.args.size bytes read_members.0 read_members.2 q
-    (executed q.cores q.write_lists c.in-Ok.init.items) c.in-Ok-from_parts.read
+    (executed q.cores q.write_lists c.in_ok-init.init.items) c.in_ok-from_parts.field-0
     read_members.1 (sym read_members.3) read_members.4 (c.if-not-is_versioned.ensures.0 refl)
     (ap (λ (vs : List ℕ). executed q.cores q.write_lists vs) values)
-    c.in-Ok-from_parts.ensures.exact c.in-Ok-from_parts.ensures.ok c.in-Ok-from_parts.ensures.err
+    c.in_ok-from_parts.ensures.exact c.in_ok-from_parts.ensures.ok c.in_ok-from_parts.ensures.err

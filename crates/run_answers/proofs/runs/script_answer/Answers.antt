@@ -8,6 +8,6 @@ use Rattle.run_answers.proofs.runs.script_answer.Goals as goal
 pub returns : goal.returns
 returns c =
     let end = c.run.ensures ∙ ap (λ (h : Configuration). ran h c.args.steps.now) c.in_ok-machine.ensures in
-    IfOk-weaker c.finished.result _ _
+    IfOk-weaker c.machine_answer.result _ _
     (λ answer is. subst (λ (h : Configuration). IsRunAnswer h.fault h.program h.state answer) end is)
-    c.finished.ensures
+    c.machine_answer.ensures

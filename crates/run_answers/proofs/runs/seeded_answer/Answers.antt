@@ -7,7 +7,7 @@ use Rattle.run_answers.proofs.runs.seeded_answer.Goals as goal
 pub returns : goal.returns
 returns c =
     let run = rw (c.in_ok-machine.ensures, c.seed_from_u64-rng.ensures) at c.run_seeded.ensures in
-    IfOk-weaker c.finished.result _ _ (λ answer is. record {
+    IfOk-weaker c.machine_answer.result _ _ (λ answer is. record {
       end = c.run_seeded.new.machine;
       rest = _;
       run = run;
@@ -15,4 +15,4 @@ returns c =
         ap (λ (m : Configuration). m.program) run.leads,
         ap (λ (m : Configuration). m.fault) run.leads,
       ) at is;
-    }) c.finished.ensures
+    }) c.machine_answer.ensures

@@ -25,8 +25,8 @@ pub cut_end-requires : goal.cut_end-requires
 cut_end-requires c =
     (c.args.machine, sym (c.in_ok-program.ensures ∙ c.program.ensures), c.in_ok-judged.ensures)
 
-pub ended-requires : goal.ended-requires
-ended-requires c = (c.args.machine, c.in_ok-judged.ensures)
+pub judged_run_answer-requires : goal.judged_run_answer-requires
+judged_run_answer-requires c = (c.args.machine, c.in_ok-judged.ensures)
 
 pub returns-in-Some : goal.returns-in-Some
 returns-in-Some c =

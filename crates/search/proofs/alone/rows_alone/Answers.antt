@@ -5,16 +5,16 @@ use Rattle.search.specs.Bound.{lengths_of}
 use Rattle.search.specs.Slots.{AreSlotsFilled}
 use Rattle.search.proofs.alone.rows_alone.Goals as goal
 
-pub filled-requires-clause-slots : goal.filled-requires-clause-slots
-filled-requires-clause-slots c κs = λ v d at.
+pub fill_rows-requires-clause-slots : goal.fill_rows-requires-clause-slots
+fill_rows-requires-clause-slots c κs = λ v d at.
     absurd (omega (arith, at, ap (λ (l : List (Option SourceRow)). length l) c.new.ensures.items))
 
 pub cut_by-requires-clause-seat : goal.cut_by-requires-clause-seat
-cut_by-requires-clause-seat c = (c.filled.ensures.seat.0, c.filled.ensures.seat.1 ∙ sym c.deref-table.ensures)
+cut_by-requires-clause-seat c = (c.fill_rows.ensures.seat.0, c.fill_rows.ensures.seat.1 ∙ sym c.deref-table.ensures)
 
 pub cut_by-requires-clause-rows : goal.cut_by-requires-clause-rows
 cut_by-requires-clause-rows c =
-    subst (λ (t : Table). AreSlotsFilled t (lengths_of c.filled.new.seat) (length t) c.in_ok-rows.rows.items)
+    subst (λ (t : Table). AreSlotsFilled t (lengths_of c.fill_rows.new.seat) (length t) c.in_ok-rows.rows.items)
     (sym c.deref-table.ensures) c.in_ok-rows.ensures.rows
 
 pub returns : goal.returns

@@ -22,35 +22,35 @@ returns-then-is_empty-clause-knows g c =
     least_none (known_of c.args.seat.now).relation c.args.jobs.items none c.requires.jobs in
     λ k short. absurd (rows.least short.0 short.1.cycle)
 
-pub collected-requires-clause-seat : goal.collected-requires-clause-seat
-collected-requires-clause-seat g c κs within =
+pub collect_rows-requires-clause-seat : goal.collect_rows-requires-clause-seat
+collect_rows-requires-clause-seat g c κs within =
     (c.requires.seat, sym (c.in_ok-relation.ensures (known_of c.args.seat.now).relation c.requires.jobs.shared))
 
-pub collected-requires-clause-jobs : goal.collected-requires-clause-jobs
-collected-requires-clause-jobs g c κs within =
+pub collect_rows-requires-clause-jobs : goal.collect_rows-requires-clause-jobs
+collect_rows-requires-clause-jobs g c κs within =
     subst (λ (t : Table). All (λ (job : Job). job.relation ≡ t) c.args.jobs.items)
     (sym (c.in_ok-relation.ensures (known_of c.args.seat.now).relation c.requires.jobs.shared))
     c.requires.jobs.shared
 
 pub returns-clause-seat : goal.returns-clause-seat
 returns-clause-seat g c = (
-  c.collected.ensures.seat.0,
-  c.collected.ensures.seat.1 ∙ c.in_ok-relation.ensures (known_of c.args.seat.now).relation
+  c.collect_rows.ensures.seat.0,
+  c.collect_rows.ensures.seat.1 ∙ c.in_ok-relation.ensures (known_of c.args.seat.now).relation
       c.requires.jobs.shared,
 )
 
 pub returns-clause-kept : goal.returns-clause-kept
-returns-clause-kept g c = c.collected.ensures.kept
+returns-clause-kept g c = c.collect_rows.ensures.kept
 
 pub returns-clause-rows : goal.returns-clause-rows
 returns-clause-rows g c =
-    subst (λ (t : Table). IfOk c.collected.result (λ rows. (cap : Option ℕ) × AreLeastRows t cap rows.items))
+    subst (λ (t : Table). IfOk c.collect_rows.result (λ rows. (cap : Option ℕ) × AreLeastRows t cap rows.items))
     (c.in_ok-relation.ensures (known_of c.args.seat.now).relation c.requires.jobs.shared)
-    c.collected.ensures.rows
+    c.collect_rows.ensures.rows
 
 pub returns-clause-knows : goal.returns-clause-knows
 returns-clause-knows g c =
-    subst (λ (t : Table). IfOk c.collected.result
-    (λ _. KnowsShortest (Related t) (lengths_of c.collected.new.seat)))
+    subst (λ (t : Table). IfOk c.collect_rows.result
+    (λ _. KnowsShortest (Related t) (lengths_of c.collect_rows.new.seat)))
     (c.in_ok-relation.ensures (known_of c.args.seat.now).relation c.requires.jobs.shared)
-    c.collected.ensures.knows
+    c.collect_rows.ensures.knows

@@ -11,6 +11,6 @@ loop-i-preserved c =
     let two : drop k list ≡ get_or list k 0 ∷ get_or list (k + 1) 0 ∷ drop (k + 1 + 1) list =
     drop_more list k 0 (omega (arith, c.loop-i-test.true))
     ∙ ap (λ (l : List ℕ). get_or list k 0 ∷ l) (drop_more list (k + 1) 0 (omega (arith, c.loop-i-test.true))) in
-    ap (λ (m : ℕ). hash_from c.mixed-hash.result (drop m list)) next
-    ∙ (ap (λ (h : ℕ). hash_from h (drop (k + 1 + 1) list)) c.mixed-hash.ensures
+    ap (λ (m : ℕ). hash_from c.mix-hash.result (drop m list)) next
+    ∙ (ap (λ (h : ℕ). hash_from h (drop (k + 1 + 1) list)) c.mix-hash.ensures
     ∙ (sym (ap (hash_from c.loop-i.hash) two) ∙ c.loop-i.invariant))

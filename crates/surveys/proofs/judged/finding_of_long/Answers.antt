@@ -14,9 +14,9 @@ returns-in-Ok c =
 
 pub returns-in-Err : goal.returns-in-Err
 returns-in-Err c =
-    IfOk-weaker c.refused.result _ _ (λ finding is. inr (record {
+    IfOk-weaker c.refused_finding.result _ _ (λ finding is. inr (record {
       refusal = c.in-Err.refusal;
       read = c.in-Err.ensures;
       known = is.1;
       finds = is.0;
-    })) c.refused.ensures
+    })) c.refused_finding.ensures

@@ -12,11 +12,11 @@ returns-in-Ok c =
 
 pub returns-in-Err : goal.returns-in-Err
 returns-in-Err c =
-    IfOk-weaker c.refused.result _ _ (λ finding is. record {
+    IfOk-weaker c.refused_finding.result _ _ (λ finding is. record {
       given = Err c.in-Err.refusal;
       is_given = record { read = c.in-Err.ensures; known = is.1 };
       finds = is.0;
-    }) c.refused.ensures
+    }) c.refused_finding.ensures
 
 pub found_in-requires : goal.found_in-requires
 found_in-requires c = c.in-Ok.ensures.3.within.few_events

@@ -15,13 +15,13 @@ returns-then-take-clause-line c =
     let lines = c.deref.result.now in
     let begins = sym c.new-rest.ensures ∙ c.take.ensures.found c.if-take.true in
     let small : most < 2 ^ 64 = omega arith in
-    let left : c.left-most.result ≡ most = omega (arith, c.left-most.ensures, ap (λ (t : List ℕ). length t) begins) in
+    let left : c.bytes_left-most.result ≡ most = omega (arith, c.bytes_left-most.ensures, ap (λ (t : List ℕ). length t) begins) in
     names_fault (LongLinesHold x most) (inl refl) (long_grow x c.sound.ensures most small) text lines
     c.first_difference.result
     (subst (λ (t : List ℕ). IsMost (LongLinesHold x most) t lines) (sym begins)
     (subst (IsMost (LongLinesHold x most) _) (sym c.deref.ensures.value)
     (long_cycle_most x most _ c.put_cycle_that_holds.new.out.items c.put_cycle_that_holds.new.rest c.in_ok-_size._size
-    (held_as c.args.places.now x c.left-most.result most _ c.new-lines.result.items
+    (held_as c.args.places.now x c.bytes_left-most.result most _ c.new-lines.result.items
     c.put_cycle_that_holds.new.out.items c.put_cycle_that_holds.new.rest c.in_ok-_size._size c.in_ok-_size._size
     c.requires left c.new-lines.ensures.items refl c.in_ok-_size.ensures))))
     c.first_difference.ensures

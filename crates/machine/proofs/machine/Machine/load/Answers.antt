@@ -26,9 +26,9 @@ pub returns : goal.returns
 returns c =
     taken (rw (← c.self.view_is, c.push.ensures)
     (executed.load_taken c.self.invariant.sound (at_inside c.self.view_is c.requires) c.index_mut-2.ensures.value
-    c.advance.ensures c.self.inside.fault c.index.ensures c.args.addr c.forwarded-entry.result
-    c.forwarded-entry.ensures c.in-Ok.what
-    (ap (forwarded_or_read c.forwarded-entry.result) (sym c.read.ensures) ∙ sym c.in-Ok.ensures)))
+    c.advance.ensures c.self.inside.fault c.index.ensures c.args.addr c.forwarded_store-entry.result
+    c.forwarded_store-entry.ensures c.in-Ok.what
+    (ap (forwarded_or_read c.forwarded_store-entry.result) (sym c.read.ensures) ∙ sym c.in-Ok.ensures)))
     (rw (← c.self.view_is) refl)
 
 pub invariant_of-self : goal.invariant_of-self
@@ -57,7 +57,7 @@ returns-in_default c =
     blocked (let core = (at_inside c.self.view_is c.requires).core in
     rw (← c.self.view_is) (rw (
       buffer_seen c.self.invariant.sound core c.index.ensures,
-      ← c.forwarded-entry.ensures,
-      ap (forwarded_or_read c.forwarded-entry.result) (sym c.read.ensures) ∙ sym c.in_default.ensures,
+      ← c.forwarded_store-entry.ensures,
+      ap (forwarded_or_read c.forwarded_store-entry.result) (sym c.read.ensures) ∙ sym c.in_default.ensures,
     ) refl))
     refl

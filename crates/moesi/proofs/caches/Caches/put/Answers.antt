@@ -26,7 +26,7 @@ returns-clause-answer c =
           rw (w.self-is, cond-true (is_owned x.line) x.copy b.memory (cc)) (w.set_word-then-is_owned.ensures.memory
           (ap (λ (k : CacheState). k.cores) w.set_word.view_is)
           ∙ ap (λ (d : ℕ × Option ℕ). with_block s c.args.addr (record { lines = b.lines; memory = d }))
-          (ap (λ (y : Cell). y.copy) w.relined.ensures
+          (ap (λ (y : Cell). y.copy) w.word_with_line.ensures
           ∙ ap (λ (y : Cell). y.copy) (c.word-word.ensures.line c.requires.core)))
       | else-is_owned w ↦
           rw (w.self-is, cond-false (is_owned x.line) x.copy b.memory (cc)) (sym (state_same s c.args.addr))

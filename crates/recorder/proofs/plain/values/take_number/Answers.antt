@@ -8,5 +8,5 @@ use Rattle.recorder.proofs.plain.values.take_number.Goals as goal
 pub returns : goal.returns
 returns c depth =
     gives_also natural clipped_number depth (value_tokens c.args.rest.now) (later_tokens c.take_natural.new.rest)
-    c.in_ok-take_natural.field-0 c.clipped.result (λ d is. ap (option_map clip) is ∙ ap Some (sym c.clipped.ensures))
+    c.in_ok-take_natural.field-0 c.clip_number.result (λ d is. ap (option_map clip) is ∙ ap Some (sym c.clip_number.ensures))
     (c.in_ok-take_natural.ensures depth)

@@ -1,4 +1,0 @@
-use Rattle.answers.proofs.rendering.drawn_answer.Goals as goal
-
-pub judge_alone-requires : goal.judge_alone-requires
-judge_alone-requires c = c.requires.within.few_events

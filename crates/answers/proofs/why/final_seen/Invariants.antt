@@ -1,6 +1,0 @@
-use Rattle.std.proofs.Common.{◌≡◌, drop}
-use Rattle.answers.specs.Why.{final_seen}
-use Rattle.answers.proofs.why.final_seen.Given as goal
-
-abbrev pub invariant-loop-one : goal.invariant-loop-one
-invariant-loop-one l = final_seen l.seen l.number ≡ final_seen (drop l.one-index l.seen) l.number

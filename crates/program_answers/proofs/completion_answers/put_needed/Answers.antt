@@ -1,0 +1,16 @@
+use Rattle.std.proofs.Common.{inr, refl}
+use Rattle.program_answers.specs.Part.{part_text}
+use Rattle.program_answers.proofs.completion_answers.put_needed.Goals as goal
+
+pub returns : goal.returns
+returns c = (
+  part_text c.in-Some.part c.in_ok-recording.recording,
+  inr (record {
+    part = c.in-Some.part;
+    needed = rw c.in-Some.is at c.in_ok-part.ensures;
+    recording = c.in_ok-recording.recording;
+    only = c.in_ok-recording.ensures;
+    text_is = refl;
+  }),
+  c.in_ok-put_part.ensures,
+)
