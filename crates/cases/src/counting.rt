@@ -1,8 +1,8 @@
 //! Counts of what is as it has to be.
 
-use crate::performing::{Printed, perform_lines};
+use crate::performing::perform_lines;
 use crate::tally::Tally;
-use crate::wanted::{Check, Rule, Wanted, checks_of};
+use case_files::{Check, Printed, Rule, Wanted, checks_of};
 use std::sync::Wait;
 use std::thread::Threads;
 use std::{fs, io};

@@ -1,5 +1,6 @@
 //! Command lines, performed.
 
+use case_files::Printed;
 use commands::perform::perform;
 use devices::{Device, Disk};
 use inputs::CommandError;
@@ -10,15 +11,6 @@ use std::io::{ErrorKind, Write};
 use std::sync::Wait;
 use std::thread::Threads;
 use verdicts::Outcome;
-
-/// What a command printed, with its status.
-#[derive(Drop)]
-pub struct Printed {
-    /// The exit status.
-    pub status: u8,
-    /// Standard output and standard error after it.
-    pub text: Vec<u8>,
-}
 
 /// A writer that keeps back what it takes until it is flushed.
 #[derive(Drop)]

@@ -12,8 +12,8 @@ use Rattle.situations.specs.Situation.{Situation}
 use Rattle.completion.specs.Seen.{IsVain}
 use Rattle.completion.specs.Reachable.{EndsBy, HasMore}
 
--- what a move of a situation comes to, by which way a becomes b: nothing; the end; the situation with a number; or there
--- are more situations than the limit
+-- what a move of a situation comes to, by which way a becomes b: nothing; the end; the situation with a number; or
+-- there are more situations than the limit
 abbrev pub IsMove : Values → Way → Way → Situation → Turn → Next → Type 0
 IsMove v a b r turn next.Vain = (b ≡ a) × IsVain v b.seen r turn.step turn.core
 IsMove v a b r turn next.End = EndsBy v b.turns.items
@@ -21,8 +21,8 @@ IsMove v a b r turn (next.Row i) = (moved v r turn.step turn.core ≡ slice_get 
     × (i < length b.seen.rows.keys) × (b.turns.items ≡ a.turns.items ++ turn ∷ [])
 IsMove v a b r turn next.Full = HasMore v a.limit
 
--- what a row comes to: turns that lead to the end; what is said of dead ones; that the try is over, which may look at no
--- more than some rows; or that there are more situations than the limit
+-- what a row comes to: turns that lead to the end; what is said of dead ones; that the try is over, which may look at
+-- no more than some rows; or that there are more situations than the limit
 abbrev pub IsCome : Type 0 → Values → ℕ → ℕ → List Turn → Came → Type 0
 IsCome dead v limit most turns came.End = EndsBy v turns
 IsCome dead v limit most turns came.Dead = dead

@@ -18,7 +18,7 @@ use Rattle.recorder.specs.Text.{source_data, event_data}
 use Rattle.recorder.specs.Clipped.{clip, clip_event, clipped_event}
 use Rattle.recorder.specs.Written.{IsWord, IsWordSource, IsFitting}
 use Rattle.recorder.specs.ByTokens.{GivesValue, value_tokens, fresh_tokens, later_tokens}
-use Rattle.recorder.specs.Usual.{tokens_of, BeginsComma, WritesEvent, EndsEvent}
+use Rattle.recorder.specs.Usual.{tokens_of, BeginsComma, BeginsKind, WritesEvent, EndsEvent}
 use Rattle.recorder.proofs.Again.{event_again}
 use Rattle.recorder.proofs.WrittenAgain.{event_rereads}
 
@@ -68,7 +68,7 @@ write_key old new (inl is) = ((codes "\"w\":" ++ new, is), rw is refl)
 write_key old new (inr is) = ((codes " \"w\": " ++ new, is), rw is refl)
 
 -- the kind of a load
-pub kind_L : (old mid new : List ℕ) → (old ≡ codes ",\"k\":\"" ++ mid) ⊎ (old ≡ codes ", \"k\": \"" ++ mid)
+pub kind_L : (old mid new : List ℕ) → BeginsKind old mid
     → mid ≡ codes "L\"" ++ new → BeginsComma new
     → (ends_word old ≡ true) × (later_tokens old ≡ Token.key (codes "k") ∷ Token.string (codes "L") ∷ later_tokens new)
 unfolding lex content punctuate
@@ -76,7 +76,7 @@ kind_L old mid new (inl is) letter comma = rw (is, letter, comma.1) (refl, refl)
 kind_L old mid new (inr is) letter comma = rw (is, letter, comma.1) (refl, refl)
 
 -- the kind of a store
-pub kind_S : (old mid new : List ℕ) → (old ≡ codes ",\"k\":\"" ++ mid) ⊎ (old ≡ codes ", \"k\": \"" ++ mid)
+pub kind_S : (old mid new : List ℕ) → BeginsKind old mid
     → mid ≡ codes "S\"" ++ new → BeginsComma new
     → (ends_word old ≡ true) × (later_tokens old ≡ Token.key (codes "k") ∷ Token.string (codes "S") ∷ later_tokens new)
 unfolding lex content punctuate
@@ -84,7 +84,7 @@ kind_S old mid new (inl is) letter comma = rw (is, letter, comma.1) (refl, refl)
 kind_S old mid new (inr is) letter comma = rw (is, letter, comma.1) (refl, refl)
 
 -- the kind of a read-modify-write
-pub kind_R : (old mid new : List ℕ) → (old ≡ codes ",\"k\":\"" ++ mid) ⊎ (old ≡ codes ", \"k\": \"" ++ mid)
+pub kind_R : (old mid new : List ℕ) → BeginsKind old mid
     → mid ≡ codes "R\"" ++ new → BeginsComma new
     → (ends_word old ≡ true) × (later_tokens old ≡ Token.key (codes "k") ∷ Token.string (codes "R") ∷ later_tokens new)
 unfolding lex content punctuate
@@ -92,7 +92,7 @@ kind_R old mid new (inl is) letter comma = rw (is, letter, comma.1) (refl, refl)
 kind_R old mid new (inr is) letter comma = rw (is, letter, comma.1) (refl, refl)
 
 -- the kind of a compare-and-swap that failed
-pub kind_C : (old mid new : List ℕ) → (old ≡ codes ",\"k\":\"" ++ mid) ⊎ (old ≡ codes ", \"k\": \"" ++ mid)
+pub kind_C : (old mid new : List ℕ) → BeginsKind old mid
     → mid ≡ codes "C\"" ++ new → BeginsComma new
     → (ends_word old ≡ true) × (later_tokens old ≡ Token.key (codes "k") ∷ Token.string (codes "C") ∷ later_tokens new)
 unfolding lex content punctuate

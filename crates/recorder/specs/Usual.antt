@@ -1,5 +1,5 @@
 -- Events that are written with their keys in one order.
-use Rattle.std.specs.Prelude.{◌≡◌, ◌++◌, ◌∷◌, ℕ, List, codes, decimal, true}
+use Rattle.std.specs.Prelude.{◌≡◌, ◌⊎◌, ◌++◌, ◌∷◌, ℕ, List, codes, decimal, true}
 use Rattle.json.specs.Token.{Token}
 use Rattle.json.specs.Tree.{json_tokens}
 use Rattle.json.specs.Word.{ends_word}
@@ -17,6 +17,10 @@ tokens_of d rest = json_tokens (outline d) ++ rest
 -- a comma stands next
 abbrev pub BeginsComma : List ℕ → Type 0
 BeginsComma text = (more : List ℕ) × (text ≡ 44 ∷ more)
+
+-- the key of a kind and a quotation mark stand next, and then the rest
+abbrev pub BeginsKind : List ℕ → List ℕ → Type 0
+BeginsKind text rest = (text ≡ codes ",\"k\":\"" ++ rest) ⊎ (text ≡ codes ", \"k\": \"" ++ rest)
 
 -- the bytes begin with an event, which fits, and the rest follows it
 pub record WritesEvent (text : List ℕ) (e : Event) (rest : List ℕ) : Type 0 where

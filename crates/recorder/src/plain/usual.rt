@@ -7,7 +7,7 @@ ghost use Rattle.serde_json.specs.Written.{compact_text};
 ghost use Rattle.recorder.specs.Text.{source_data};
 ghost use Rattle.recorder.specs.Written.{IsWord, IsWordSource};
 ghost use Rattle.recorder.specs.ByTokens.{later_tokens};
-ghost use Rattle.recorder.specs.Usual.{tokens_of, BeginsComma, WritesEvent, EndsEvent};
+ghost use Rattle.recorder.specs.Usual.{tokens_of, BeginsComma, BeginsKind, WritesEvent, EndsEvent};
 
 use crate::plain::values::take_digits;
 use crate::spaced::skip_one;
@@ -54,6 +54,7 @@ impl Layout for Spaced {
 }
 
 /// Takes the number of 32 bits that stands next, if one does.
+#[inline(always)]
 fn take_word(rest: &mut Cursor<'_>) -> Option<u32>
     ensures { IfSome result (λ n. IsWord n × (rest.old ≡ decimal n ++ rest.new)) }
 {
@@ -61,10 +62,15 @@ fn take_word(rest: &mut Cursor<'_>) -> Option<u32>
 }
 
 /// Takes the source that stands next, if one does.
+#[inline(always)]
 fn take_source(rest: &mut Cursor<'_>) -> Option<Option<EventId>>
     ensures { IfSome result (λ s. IsWordSource s × (rest.old ≡ compact_text (source_data s) ++ rest.new)) }
 {
-    if rest.take(b"null") {
+    let bytes = rest.rest();
+    if !bytes.is_empty() && bytes[0] == b'n' {
+        if !rest.take(b"null") {
+            return None;
+        }
         return Some(None);
     }
     let source = take_word(rest)?;
@@ -102,7 +108,27 @@ fn take_write<L: Layout>(rest: &mut Cursor<'_>) -> Option<u32>
     Some(value)
 }
 
-/// Takes the kind of an event at this address and what the kind has, all but the brace that closes the event.
+/// Takes the letter of a read-modify-write, or of a compare-and-swap that failed, and what the kind has, of an event at
+/// this address.
+#[inline(never)]
+fn take_atomic<L: Layout>(a: Addr, rest: &mut Cursor<'_>) -> Option<Event>
+    ensures { IfSome result (λ e. (text t : List ℕ) → BeginsKind text rest.old → rest.new ≡ 125 ∷ t
+        → EndsEvent a text e t) }
+{
+    if rest.take(b"R\"") {
+        let (r, s) = take_read::<L>(rest)?;
+        let w = take_write::<L>(rest)?;
+        return Some(Event::R { a, r, s, w });
+    }
+    if rest.take(b"C\"") {
+        let (r, s) = take_read::<L>(rest)?;
+        return Some(Event::C { a, r, s });
+    }
+    None
+}
+
+/// Takes the kind of an event at this address and what the kind has, all but the brace that closes the event. What is
+/// neither a load nor a store is taken by a cursor of its own, so that the other one need not be in memory.
 fn take_rest<L: Layout>(a: Addr, rest: &mut Cursor<'_>) -> Option<Event>
     ensures { IfSome result (λ e. (t : List ℕ) → rest.new ≡ 125 ∷ t → EndsEvent a rest.old e t) }
 {
@@ -117,16 +143,10 @@ fn take_rest<L: Layout>(a: Addr, rest: &mut Cursor<'_>) -> Option<Event>
         let w = take_write::<L>(rest)?;
         return Some(Event::S { a, w });
     }
-    if rest.take(b"R\"") {
-        let (r, s) = take_read::<L>(rest)?;
-        let w = take_write::<L>(rest)?;
-        return Some(Event::R { a, r, s, w });
-    }
-    if rest.take(b"C\"") {
-        let (r, s) = take_read::<L>(rest)?;
-        return Some(Event::C { a, r, s });
-    }
-    None
+    let mut own = Cursor::new(rest.rest());
+    let event = take_atomic::<L>(a, &mut own)?;
+    *rest = Cursor::new(own.rest());
+    Some(event)
 }
 
 /// Takes a fence, if one stands next.

@@ -56,6 +56,7 @@ pub(crate) fn take_kind(rest: &mut Cursor<'_>) -> Option<u8>
 }
 
 /// The number that stands next, taken by a cursor of its own: its place is not written at each digit.
+#[inline(always)]
 pub(crate) fn take_digits(rest: &mut Cursor<'_>) -> Option<u64>
     ensures { IfSome result (λ n. rest.old ≡ decimal n ++ rest.new) }
 {

@@ -1,5 +1,5 @@
 use Rattle.std.proofs.Common.{◌≡◌, ◌<◌, ◌+◌, ◌-◌, ◌^◌, ◌∙◌, inl, inr, ℕ, Option, Some, List, length, get_or, vec_len}
-use Rattle.std.proofs.Common.{arith, ap, sym, subst}
+use Rattle.std.proofs.Common.{arith, ap, refl, sym, subst}
 use Rattle.std.proofs.lemmas.Bool.{cases_eq}
 use Rattle.std.proofs.lemmas.List.{get_or_default}
 use Rattle.values.specs.Values.{Values}
@@ -7,13 +7,12 @@ use Rattle.std.proofs.lemmas.Option.{same_Some, slice_get-get_or, slice_get_with
 use Rattle.completion.specs.declared.moves.Move.TheVariants.{Modify}
 use Rattle.completion.specs.declared.moves.Turn.{Turn}
 use Rattle.completion.specs.declared.seen.Seen.{Seen}
-use Rattle.completion.specs.Reachable.{HasMore}
 use Rattle.completion.specs.Seen.{Grows, HasNumber, IsTaken, IsVain}
 use Rattle.completion.specs.Situation.{beginning, moved}
 use Rattle.situations.specs.Situation.{Situation}
 use Rattle.completion.proofs.Rank.{rank, most_rank}
 use Rattle.completion.proofs.Comes.{come_by}
-use Rattle.completion.proofs.Vain.{all_vain, buried_dead, buried_grows, buried_searched, grows_on, popped, step_comes}
+use Rattle.completion.proofs.Vain.{all_vain, buried_dead, buried_grows, buried_searched, grows_on, grows_same, popped, step_comes}
 use Rattle.completion.proofs.Vain.{step_falls, vain_still}
 use Rattle.completion.proofs.search.+explore.Goals as goal
 use Rattle.completion.proofs.search.+explore.Goals.{in-Vain, in-Row+in_ok-came-in-Row+in-Dead}
@@ -196,3 +195,44 @@ returns-in_default t c =
           (λ is. absurd (c.in_default.not-Dead is)) (λ _. subst (λ (n : ℕ). n < 2 ^ 64 - 1) most) limit
           c.in_ok-came-in-Row.ensures.come;
     }
+
+pub returns-then-way-clause-searched : goal.returns-then-way-clause-searched
+returns-then-way-clause-searched t c = c.requires.searched
+
+pub returns-then-way-clause-grows : goal.returns-then-way-clause-grows
+returns-then-way-clause-grows t c = grows_same c.args.way.now.seen
+
+pub rank_moves-requires-clause-square : goal.rank_moves-requires-clause-square
+rank_moves-requires-clause-square t c = c.requires.square
+
+pub rank_moves-requires-clause-forced : goal.rank_moves-requires-clause-forced
+rank_moves-requires-clause-forced t c = c.requires.forced
+
+pub loop-turn-init : goal.loop-turn-init
+loop-turn-init t c = record {
+  searched = c.requires.searched;
+  grows = grows_same c.args.way.now.seen;
+  limit = refl;
+  most = refl;
+  turns = refl;
+  vain = λ i d r low was. absurd (omega (arith, low));
+}
+
+pub reach-requires-clause-searched : goal.reach-requires-clause-searched
+reach-requires-clause-searched t c = c.loop-turn.invariant.searched
+
+pub returns-in-End-clause-searched : goal.returns-in-End-clause-searched
+returns-in-End-clause-searched t c = c.in_ok-reach.ensures.searched
+
+pub returns-in-End-clause-grows : goal.returns-in-End-clause-grows
+returns-in-End-clause-grows t c =
+    grows_on c.args.way.now.seen c.loop-turn.way.seen c.reach.new.way.seen c.loop-turn.invariant.grows
+    c.in_ok-reach.ensures.grows
+
+pub returns-in-Full-clause-searched : goal.returns-in-Full-clause-searched
+returns-in-Full-clause-searched t c = c.in_ok-reach.ensures.searched
+
+pub returns-in-Full-clause-grows : goal.returns-in-Full-clause-grows
+returns-in-Full-clause-grows t c =
+    grows_on c.args.way.now.seen c.loop-turn.way.seen c.reach.new.way.seen c.loop-turn.invariant.grows
+    c.in_ok-reach.ensures.grows

@@ -1,11 +1,12 @@
-use Rattle.std.proofs.Common.{◌≡◌, ◌∙◌, ◌++◌, ◌∷◌, [], ℕ, IfSome, List, Option, ap, subst, sym}
+use Rattle.std.proofs.Common.{◌∙◌, List, ap, subst, sym}
 use Rattle.std.proofs.lemmas.Option.{slice_get_within}
 use Rattle.completion.specs.declared.moves.Turn.{Turn}
+use Rattle.completion.specs.declared.seen.Seen.{Seen}
 use Rattle.completion.specs.Reachable.{after_moves}
-use Rattle.completion.specs.Seen.{HasNumber}
+use Rattle.completion.specs.Seen.{AreSearched, Grows}
 use Rattle.completion.specs.Situation.{beginning}
 use Rattle.completion.proofs.Shapes.{led_fits}
-use Rattle.completion.proofs.Vain.{led_by, led_to, way_on}
+use Rattle.completion.proofs.Vain.{grows_same, led_by, led_to, way_on}
 use Rattle.completion.proofs.Rank.{beginning_fit, led_fit}
 use Rattle.completion.proofs.search.reach.Goals as goal
 
@@ -42,3 +43,59 @@ returns-in-Some-2-clause-next c =
       slice_get_within c.add.new.way.seen.rows.keys c.in-Some-2.number c.in-Some.next added.0,
       added.1,
     )
+
+pub returns-in_default-clause-searched : goal.returns-in_default-clause-searched
+returns-in_default-clause-searched c = c.requires.searched
+
+pub returns-in_default-clause-grows : goal.returns-in_default-clause-grows
+returns-in_default-clause-grows c = grows_same c.args.way.now.seen
+
+pub returns-then-is_dead-clause-searched : goal.returns-then-is_dead-clause-searched
+returns-then-is_dead-clause-searched c =
+    subst (AreSearched c.args.values.now) (sym c.number.ensures.kept) c.requires.searched
+
+pub returns-then-is_dead-clause-grows : goal.returns-then-is_dead-clause-grows
+returns-then-is_dead-clause-grows c =
+    subst (Grows c.args.way.now.seen) (sym c.number.ensures.kept) (grows_same c.args.way.now.seen)
+
+pub returns-in-Some-number-clause-searched : goal.returns-in-Some-number-clause-searched
+returns-in-Some-number-clause-searched c =
+    subst (AreSearched c.args.values.now) (sym c.number.ensures.kept) c.requires.searched
+
+pub returns-in-Some-number-clause-grows : goal.returns-in-Some-number-clause-grows
+returns-in-Some-number-clause-grows c =
+    subst (Grows c.args.way.now.seen) (sym c.number.ensures.kept) (grows_same c.args.way.now.seen)
+
+pub returns-then-is_end-clause-searched : goal.returns-then-is_end-clause-searched
+returns-then-is_end-clause-searched c =
+    subst (AreSearched c.args.values.now) (sym c.number.ensures.kept) c.requires.searched
+
+pub returns-then-is_end-clause-grows : goal.returns-then-is_end-clause-grows
+returns-then-is_end-clause-grows c =
+    subst (Grows c.args.way.now.seen) (sym c.number.ensures.kept) (grows_same c.args.way.now.seen)
+
+pub returns-then-loses-clause-searched : goal.returns-then-loses-clause-searched
+returns-then-loses-clause-searched c =
+    subst (AreSearched c.args.values.now) (sym c.number.ensures.kept) c.requires.searched
+
+pub returns-then-loses-clause-grows : goal.returns-then-loses-clause-grows
+returns-then-loses-clause-grows c =
+    subst (Grows c.args.way.now.seen) (sym c.number.ensures.kept) (grows_same c.args.way.now.seen)
+
+pub add-requires-clause-searched : goal.add-requires-clause-searched
+add-requires-clause-searched c =
+    subst (AreSearched c.args.values.now) (sym c.number.ensures.kept) c.requires.searched
+
+pub returns-in-Some-2-clause-searched : goal.returns-in-Some-2-clause-searched
+returns-in-Some-2-clause-searched c = c.in_ok-number.ensures.searched
+
+pub returns-in-Some-2-clause-grows : goal.returns-in-Some-2-clause-grows
+returns-in-Some-2-clause-grows c =
+    subst (λ (seen : Seen). Grows seen c.add.new.way.seen) c.number.ensures.kept c.in_ok-number.ensures.grows
+
+pub returns-clause-searched : goal.returns-clause-searched
+returns-clause-searched c = c.in_ok-number.ensures.searched
+
+pub returns-clause-grows : goal.returns-clause-grows
+returns-clause-grows c =
+    subst (λ (seen : Seen). Grows seen c.add.new.way.seen) c.number.ensures.kept c.in_ok-number.ensures.grows

@@ -3,7 +3,7 @@ use Rattle.std.proofs.lemmas.Bool.Decides.{Decides-eqb}
 use Rattle.std.proofs.lemmas.List.{append_cancel_left}
 use Rattle.std.proofs.lemmas.Slice.Eq.{ends_is, strip_prefix_is}
 use Rattle.std.specs.Cmp.Lexicographic.{pointwise}
-use Rattle.cases.proofs.case.is_around.Goals as goal
+use Rattle.case_files.proofs.case.is_around.Goals as goal
 
 -- a text after its head ends with the tail exactly where the text is the head, any bytes and the tail
 around : (head tail text rest : List ℕ) (ends : Bool) → text ≡ head ++ rest

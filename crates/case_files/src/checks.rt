@@ -1,13 +1,21 @@
 //! What is asked of the files of a folder. Those of classic tests have the names of the field.
 
 ghost use Rattle.std.specs.Prelude.{◌≡◌, ◌↔◌, IsTrue};
-ghost use Rattle.cases.specs.PrintedStatus.{verdict_status};
+ghost use Rattle.case_files.specs.PrintedStatus.{verdict_status};
 
 use crate::case::{Case, cases_of};
-use crate::performing::Printed;
 use crate::rules::{has_order, is_run_in_order, prints_back};
 use std::alloc::{AllocError, Global};
 use std::{fs, io};
+
+/// What a command printed, with its status.
+#[derive(Drop)]
+pub struct Printed {
+    /// The exit status.
+    pub status: u8,
+    /// Standard output and standard error after it.
+    pub text: Vec<u8>,
+}
 
 /// What a file, or the one of its name that ends otherwise, has to meet.
 #[derive(Clone, Copy)]
