@@ -1,7 +1,8 @@
 -- The events that stand right before others.
 use Rattle.std.proofs.Common.{◌≡◌, ◌≢◌, ◌<◌, ◌≤◌, ◌+◌, ◌⊎◌, inl, inr, ℕ, Bool, true, false, cond, List}
-use Rattle.std.proofs.Common.{Some, None, get_or, length, arith, sym, ap, subst, ◌∙◌}
-use Rattle.std.proofs.lemmas.Bool.{cases_eq}
+use Rattle.std.proofs.Common.{Option, Some, None, get_or, length, arith, refl, sym, ap, subst, ◌∙◌}
+use Rattle.std.proofs.lemmas.Bool.{cases_eq, cases_lt}
+use Rattle.std.proofs.lemmas.List.{get_or_default, get_or_past}
 use Rattle.recording.specs.Execution.{Execution, event_count, event_at, write_list, ProgramOrder, Reads, Writes}
 use Rattle.recording.specs.Execution.{source_of}
 use Rattle.recording.specs.Order.{place}
@@ -11,8 +12,9 @@ use Rattle.recording.specs.EventLaws.{Writes-event}
 use Rattle.recording.specs.Tso.{IsWellFormed}
 use Rattle.relations.specs.declared.indexed.IndexedEvent.{IndexedEvent}
 use Rattle.relations.specs.Direct.{is_passed, IsFirstNewer, IsNextWrite}
-use Rattle.relations.specs.declared.reason.Reason.TheVariants.{Wo, Rf, Fr}
-use Rattle.relations.specs.Forced.{Forced, IsNewerFrom}
+use Rattle.relations.specs.declared.reason.Reason.{Reason}
+use Rattle.relations.specs.declared.reason.Reason.TheVariants.{Po, Wo, Rf, Fr}
+use Rattle.relations.specs.Forced.{Forced, Holds, IsNewerFrom, IsOlder}
 use Rattle.relations.specs.Indexed.{IsIndexed}
 use Rattle.long.specs.Steps.{IsLast}
 
@@ -94,6 +96,43 @@ newer_there x p a w ws hp is list h =
     (hp.newer a (sym hp.reads ∙ is) w inside).0 ((from w inside).1 (omega arith)) in
     omega (arith, low, inside, ap (λ (vs : List ℕ). length vs) list)
 
+-- where the first newer write is said to be another event, it is that one
+pub newer_found : (x : Execution) (p : IndexedEvent) (a : ℕ) → IsIndexed x p → p.reads ≡ Some a
+    → p.first_newer ≢ p.number → IsFirstNewer x p.number p.first_newer
+newer_found x p a hp is other =
+    let ws : List ℕ = write_list x a in
+    let said : p.first_newer ≡ get_or ws p.newer p.number = hp.first_newer a (sym hp.reads ∙ is) in
+    elim (cases_lt p.newer (length ws)) [
+      | inl low ↦ subst (λ (w : ℕ). IsFirstNewer x p.number w)
+          (get_or_default ws p.newer 0 p.number low ∙ sym said) (newer_at x p a ws hp is refl low).0
+      | inr past ↦ absurd (other (said ∙ get_or_past ws p.newer p.number past))
+    ]
+
+-- a first newer write is said to be one
+pub newer_said : (x : Execution) (p : IndexedEvent) (a w : ℕ) → IsIndexed x p → p.reads ≡ Some a
+    → IsFirstNewer x p.number w → w ≡ p.first_newer
+newer_said x p a w hp is h =
+    let ws : List ℕ = write_list x a in
+    let low = newer_there x p a w ws hp is refl h in
+    one_newer x hp.well_formed p.number w (get_or ws p.newer 0) h (newer_at x p a ws hp is refl low).0
+    ∙ (get_or_default ws p.newer 0 p.number low ∙ sym (hp.first_newer a (sym hp.reads ∙ is)))
+
+-- a read that is its own first newer write is not forced before itself
+newer_itself_by : (x : Execution) → IsWellFormed x → (e : ℕ) → IsFirstNewer x e e → (reason : Reason)
+    → Holds x reason e e → ⊥
+newer_itself_by x wf e h Po holds = omega (arith, holds.0.0)
+newer_itself_by x wf e h Wo holds = omega (arith, holds.1.0)
+newer_itself_by x wf e h Rf holds =
+    let inside = place_in (write_list x h.0) e (omega (arith, (wf.write_lists h.0).once e h.2)) in
+    let older : IsOlder (write_list x h.0) (source_of x e) e = (h.3 e inside).1 (omega arith) in
+    let before : IsOlder (write_list x h.0) (Some e) e =
+    subst (λ (s : Option ℕ). IsOlder (write_list x h.0) s e) holds.0 older in omega (arith, before.0)
+newer_itself_by x wf e h Fr holds = absurd (holds.3 refl)
+
+-- for no reason
+pub newer_itself : (x : Execution) → IsWellFormed x → (e : ℕ) → IsFirstNewer x e e → Forced x e e → ⊥
+newer_itself x wf e h forced = newer_itself_by x wf e h forced.0 forced.1
+
 -- what does not read has no first newer write
 pub newer_none : (x : Execution) (p : IndexedEvent) (w : ℕ) → IsIndexed x p → p.reads ≡ None
     → IsFirstNewer x p.number w → ⊥
@@ -129,6 +168,32 @@ next_write_is x p a d ws hp is list h =
       sym (ap (λ (vs : List ℕ). get_or vs (p.place + 1) 0) list
           ∙ (ap (λ (i : ℕ). get_or (write_list x a) i 0) at ∙ at_place (write_list x a) d inside)),
     )
+
+-- where the next write is said to be another event, it is that one
+pub next_write_found : (x : Execution) (p : IndexedEvent) (a : ℕ) → IsIndexed x p → p.writes ≡ Some a
+    → p.next ≢ p.number → IsNextWrite x p.number p.next
+next_write_found x p a hp is other =
+    let ws : List ℕ = write_list x a in
+    let said : p.next ≡ get_or ws (p.place + 1) p.number = hp.next a (sym hp.writes ∙ is) in
+    elim (cases_lt (p.place + 1) (length ws)) [
+      | inl low ↦ subst (λ (w : ℕ). IsNextWrite x p.number w)
+          (get_or_default ws (p.place + 1) 0 p.number low ∙ sym said) (next_write_at x p a ws hp is refl low)
+      | inr past ↦ absurd (other (said ∙ get_or_past ws (p.place + 1) p.number past))
+    ]
+
+-- a next write is said to be one
+pub next_write_said : (x : Execution) (p : IndexedEvent) (a d : ℕ) → IsIndexed x p → p.writes ≡ Some a
+    → IsNextWrite x p.number d → d ≡ p.next
+next_write_said x p a d hp is h =
+    let ws : List ℕ = write_list x a in
+    let at = next_write_is x p a d ws hp is refl h in
+    at.1 ∙ (get_or_default ws (p.place + 1) 0 p.number at.0 ∙ sym (hp.next a (sym hp.writes ∙ is)))
+
+-- and is another event
+pub next_write_other : (x : Execution) (d e : ℕ) → IsNextWrite x e d → d ≡ e → ⊥
+next_write_other x d e h same =
+    let twice : place (write_list x h.0) e ≡ place (write_list x h.0) e + 1 =
+    ap (λ (k : ℕ). place (write_list x h.0) k) (sym same) ∙ h.3 in omega (arith, twice)
 
 -- what does not write has no next write
 pub no_next_write : (x : Execution) (p : IndexedEvent) (d : ℕ) → IsIndexed x p → p.writes ≡ None

@@ -1,7 +1,7 @@
 //! The forced pairs from which all others follow.
 
-ghost use Rattle.std.specs.Prelude.{◌≡◌, ◌≤◌, ◌<◌, ◌+◌, ◌*◌, ◌↔◌, ◌⊎◌, ℕ, Some, Bool, cond, IfOk, IsTrue, MatchOption};
-ghost use Rattle.std.specs.Prelude.{[], length};
+ghost use Rattle.std.specs.Prelude.{◌≡◌, ◌≢◌, ◌≤◌, ◌<◌, ◌+◌, ◌*◌, ◌↔◌, ◌⊎◌, ℕ, Some, Bool, cond, IfOk, IsTrue};
+ghost use Rattle.std.specs.Prelude.{MatchOption, [], length};
 ghost use Rattle.recording.specs.Event.{is_plain_store};
 ghost use Rattle.recording.specs.Execution.{Execution, event_at, event_count, source_of, ProgramOrder};
 ghost use Rattle.order.specs.Open.{IsOpen};
@@ -36,38 +36,31 @@ fn write_after(places: &Places<'_>, event: EventId) -> Option<EventId>
     ensures { MatchOption result ((d : ℕ) → ¬ IsNextWrite places.now event d)
         (λ w. IsNextWrite places.now event w × ((d : ℕ) → IsNextWrite places.now event d → d ≡ w)) }
 {
-    places.sound();
     let placed = places.event(event as usize);
-    let Some(address) = placed.writes else {
+    let Some(_) = placed.writes else {
         return None;
     };
-    let list = places.write_list(address);
-    let next = placed.place as usize + 1;
-    if next < list.len() {
-        Some(list[next])
-    } else {
-        None
+    if placed.next == event {
+        return None;
     }
+    Some(placed.next)
 }
 
-/// The first write that is newer than the source of an event, if it reads and there is one.
+/// The first write that is newer than the source of an event, if it reads and there is one that is not itself.
 fn first_newer(places: &Places<'_>, event: EventId) -> Option<EventId>
     requires { event < event_count places.now }
-    ensures { MatchOption result ((w : ℕ) → ¬ IsFirstNewer places.now event w)
-        (λ w. IsFirstNewer places.now event w × ((v : ℕ) → IsFirstNewer places.now event v → v ≡ w)) }
+    ensures { MatchOption result ((w : ℕ) → IsFirstNewer places.now event w → w ≡ event)
+        (λ w. IsFirstNewer places.now event w × (w ≢ event)
+        × ((v : ℕ) → IsFirstNewer places.now event v → v ≡ w)) }
 {
-    places.sound();
     let placed = places.event(event as usize);
-    let Some(address) = placed.reads else {
+    let Some(_) = placed.reads else {
         return None;
     };
-    let list = places.write_list(address);
-    let newer = placed.newer as usize;
-    if newer < list.len() {
-        Some(list[newer])
-    } else {
-        None
+    if placed.first_newer == event {
+        return None;
     }
+    Some(placed.first_newer)
 }
 
 /// Whether an event is after the first one of a core, on that core.
@@ -297,7 +290,7 @@ impl Linked {
         places.sound();
         match first_newer(places, event) {
             Some(write) => {
-                let is_from_read = write != event && !is_earlier(start, write, event);
+                let is_from_read = !is_earlier(start, write, event);
                 self.put_forced(places, event, write, is_from_read)
             }
             None => Ok(()),

@@ -1,26 +1,23 @@
-use Rattle.std.proofs.Common.{ℕ, get_or, arith, sym, subst}
+use Rattle.std.proofs.Common.{ℕ, sym, subst, ◌∙◌}
 use Rattle.relations.specs.Direct.{IsFirstNewer}
-use Rattle.long.proofs.Steps.{newer_at, newer_there, one_newer}
+use Rattle.long.proofs.Steps.{newer_found, newer_said}
 use Rattle.long.proofs.linking.first_newer.Goals as goal
 
-pub returns-then-newer-list : goal.returns-then-newer-list
-returns-then-newer-list c =
+pub returns-then-placed-event : goal.returns-then-placed-event
+returns-then-placed-event c w h =
+    let x = c.args.places.now in
+    let placed = c.event-placed.ensures in
+    newer_said x c.event-placed.result.now c.in-Some.field-0 w placed.place c.in-Some.is
+    (subst (λ (n : ℕ). IsFirstNewer x n w) (sym placed.number) h) ∙ c.if-placed-event.true
+
+pub returns : goal.returns
+returns c =
     let x = c.args.places.now in
     let p = c.event-placed.result.now in
-    let found = newer_at x p c.in-Some.address c.write_list-list.result.now c.event-placed.ensures.place c.in-Some.is
-    c.write_list-list.ensures c.if-newer-list.true in
-    let here : IsFirstNewer x c.args.event (get_or c.write_list-list.result.now p.newer 0) =
-    subst (λ (n : ℕ). IsFirstNewer x n (get_or c.write_list-list.result.now p.newer 0)) c.event-placed.ensures.number
-    found.0 in
-    (here, λ v h. one_newer x c.sound.ensures.well_formed c.args.event v _ h here)
-
-pub returns-else-newer-list : goal.returns-else-newer-list
-returns-else-newer-list c w h =
-    let x = c.args.places.now in
-    omega (
-      arith,
-      c.if-newer-list.false,
-      newer_there x c.event-placed.result.now c.in-Some.address w c.write_list-list.result.now
-          c.event-placed.ensures.place c.in-Some.is c.write_list-list.ensures
-          (subst (λ (n : ℕ). IsFirstNewer x n w) (sym c.event-placed.ensures.number) h),
+    let placed = c.event-placed.ensures in (
+      subst (λ (n : ℕ). IsFirstNewer x n p.first_newer) placed.number (newer_found x p c.in-Some.field-0 placed.place
+          c.in-Some.is (λ same. c.if-placed-event.false (same ∙ placed.number))),
+      c.if-placed-event.false,
+      λ v h. newer_said x p c.in-Some.field-0 v placed.place c.in-Some.is
+          (subst (λ (n : ℕ). IsFirstNewer x n v) (sym placed.number) h),
     )
