@@ -16,7 +16,6 @@ use common::{EventId, OutOfMemory};
 use drawing::drawing_text;
 use event_texts::{Labels, Names};
 use explanation::explanation_text;
-use indexmap::IndexSet;
 use judge::{Verdict, judge_alone};
 use long::{LongAnswer, long_outcome, without_labels};
 use program::{Name, Program};
@@ -198,12 +197,12 @@ fn long_told_answer(
 }
 
 /// The names that the program of a recording gives its addresses; none without a program.
-fn addresses_of(alloc: Global, program: Option<&Program>) -> Result<IndexSet<Name>, OutOfMemory>
-    ensures { IfOk result (λ names. names.keys ≡ addresses_of (option_map (λ p. p.now) program.entry)) }
+fn addresses_of(alloc: Global, program: Option<&Program>) -> Result<Vec<Name>, OutOfMemory>
+    ensures { IfOk result (λ names. names.items ≡ addresses_of (option_map (λ p. p.now) program.entry)) }
 {
     match program {
-        Some(program) => Ok(program.names().clone()?),
-        None => Ok(IndexSet::new(alloc)),
+        Some(program) => Ok(Vec::from_slice(alloc, program.names().as_slice())?),
+        None => Ok(Vec::new(alloc)),
     }
 }
 

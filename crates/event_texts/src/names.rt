@@ -2,7 +2,6 @@
 
 use crate::labels::Labels;
 use common::{Addr, EventId};
-use indexmap::IndexSet;
 use program::Name;
 use std::marker::Model;
 
@@ -10,7 +9,7 @@ use std::marker::Model;
 /// the letter a and its number.
 #[derive(Drop)]
 pub struct Names {
-    addresses: IndexSet<Name>,
+    addresses: Vec<Name>,
     labels: Labels,
 }
 
@@ -19,7 +18,7 @@ impl Model for Names {
 
     ghost Value = { spec.Names };
 
-    ghost view = { λ n. record { addresses = n.addresses.keys; labels = n.labels } };
+    ghost view = { λ n. record { addresses = n.addresses.items; labels = n.labels } };
 }
 
 impl Names {
@@ -27,8 +26,8 @@ impl Names {
     ghost use Rattle.event_texts.specs.Names.{label_of};
 
     /// These names of addresses, in their order, and these labels.
-    pub fn new(addresses: IndexSet<Name>, labels: Labels) -> Names
-        ensures addresses { result.addresses ≡ addresses.keys }
+    pub fn new(addresses: Vec<Name>, labels: Labels) -> Names
+        ensures addresses { result.addresses ≡ addresses.items }
         ensures labels { result.labels ≡ labels }
     {
         Names { addresses, labels }
@@ -38,7 +37,7 @@ impl Names {
     pub(crate) fn name(&self, address: Addr) -> Option<&Name>
         ensures { option_copied result ≡ slice_get self.now.addresses address }
     {
-        self.addresses.get_index(address as usize)
+        self.addresses.get(address as usize)
     }
 
     /// The label of an event; empty where it has none.
