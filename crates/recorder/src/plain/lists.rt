@@ -23,7 +23,7 @@ fn room_after(len: usize) -> usize {
     len.saturating_add(len / 8 + 4)
 }
 
-/// A list, which has room for this many items at first.
+/// A list, which has room for this many items at first, or for none where it is empty.
 #[inline(never)]
 fn take_list_in<K: Kind>(
     alloc: Global,
@@ -38,10 +38,10 @@ fn take_list_in<K: Kind>(
     if !take_sign(rest, b'[') {
         return Ok(None);
     }
-    let mut found = Vec::with_capacity(alloc, room)?;
     if take_sign(rest, b']') {
-        return Ok(Some(found));
+        return Ok(Some(Vec::new(alloc)));
     }
+    let mut found = Vec::with_capacity(alloc, room)?;
     'items: loop {
         let Some(item) = K::take(rest) else {
             return Ok(None);

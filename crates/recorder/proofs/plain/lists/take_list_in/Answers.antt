@@ -13,7 +13,7 @@ returns-then-take_sign g c depth = (
       (c.if-take_sign.ensures.found refl))
       (opens_array c.args.rest.now c.take_sign.new.rest c.take_sign.new.rest (c.if-not-take_sign.ensures.found refl)
       refl),
-  rw c.in_ok-found.ensures.items (g.met.K.Kind.holds_none c.args.size),
+  rw c.new.ensures.items (g.met.K.Kind.holds_none c.args.size),
 )
 
 pub items-init : goal.items-init
