@@ -17,9 +17,13 @@ const SLOTS: usize = 512;
 /// How many bytes a batch has at least, but for the last one of a block.
 const BATCH: usize = 16_384;
 
-/// How often a thread looks for what it needs before it sleeps, some 150 microseconds in all: to wake it may take
-/// longer than to judge a batch of short recordings.
+/// How often a thread looks for what it needs before it sleeps, where nothing lies here: some 150 microseconds in all,
+/// since to wake it may take longer than to judge a batch of short recordings.
 const LOOKS: usize = 512;
+
+/// How often it does while something lies here, so that more is to come soon: some 5 milliseconds in all, since where
+/// processors are shared with other machines, to wake it may take as long.
+const LOOKS_AT_WORK: usize = 16_384;
 
 /// What lies at a slot.
 #[derive(Drop)]
@@ -165,6 +169,18 @@ impl Slots {
         }
     }
 
+    /// How often a thread that found no batch looks again before it sleeps.
+    fn looks(&self) -> usize {
+        if self.is_closed {
+            return 0;
+        }
+        if self.bytes == 0 {
+            LOOKS
+        } else {
+            LOOKS_AT_WORK
+        }
+    }
+
     /// How many bytes the oldest batch has, if it is judged.
     fn judged_length(&self) -> Option<usize> {
         match self.slots.get(self.oldest) {
@@ -233,7 +249,7 @@ pub(crate) struct WorkQueue {
     slots: Mutex<Slots>,
     was_put: Condvar,
     was_judged: Condvar,
-    /// How often a batch was put or put back.
+    /// How often a batch was put or put back, the last one was collected, or the queue was closed.
     changes: AtomicUsize,
 }
 
@@ -298,7 +314,17 @@ impl WorkQueue {
 
     /// Takes the oldest batch away if it is judged.
     pub(crate) fn collect<R: Wait>(&self, rt: &R) -> Option<Batch> {
-        self.slots.lock(rt).collect()
+        let mut held = self.slots.lock(rt);
+        let batch = held.collect();
+        self.tell_if_empty(&held);
+        batch
+    }
+
+    /// Has threads that look see that nothing lies here, if nothing does.
+    fn tell_if_empty(&self, slots: &Slots) {
+        if slots.bytes == 0 {
+            self.changes.fetch_add(1, Ordering::SeqCst);
+        }
     }
 
     /// Puts a judged batch back to where it lay.
@@ -311,13 +337,19 @@ impl WorkQueue {
     /// The next batch, if one waits by the time that all looks are over.
     fn take_soon<R: Wait>(&self, rt: &R) -> Option<(usize, Batch)> {
         let mut seen = usize::MAX;
-        for _ in 0..LOOKS {
+        let mut looks = LOOKS;
+        for look in 0..LOOKS_AT_WORK {
             let changes = self.changes.load(Ordering::SeqCst);
             if changes != seen {
                 seen = changes;
-                if let Some(found) = self.slots.lock(rt).take() {
+                let mut held = self.slots.lock(rt);
+                if let Some(found) = held.take() {
                     return Some(found);
                 }
+                looks = held.looks();
+            }
+            if look >= looks {
+                return None;
             }
             thread::yield_now();
         }
@@ -339,13 +371,15 @@ impl WorkQueue {
     /// What the thread that collects does next, if it need not wait by the time that all looks are over.
     fn turn_soon<R: Wait>(&self, rt: &R, kept: usize) -> Option<Turn> {
         let mut seen = usize::MAX;
-        for _ in 0..LOOKS {
+        for _ in 0..LOOKS_AT_WORK {
             let changes = self.changes.load(Ordering::SeqCst);
             if changes != seen {
                 seen = changes;
                 let mut held = self.slots.lock(rt);
                 if !held.is_behind(kept) {
-                    return Some(held.turn(kept));
+                    let turn = held.turn(kept);
+                    self.tell_if_empty(&held);
+                    return Some(turn);
                 }
             }
             thread::yield_now();
@@ -362,12 +396,15 @@ impl WorkQueue {
         let mut held = self
             .was_judged
             .wait_while(rt, held, |slots| slots.is_behind(kept));
-        held.turn(kept)
+        let turn = held.turn(kept);
+        self.tell_if_empty(&held);
+        turn
     }
 
     /// Ends the work of all workers.
     pub(crate) fn close<R: Wait>(&self, rt: &R) {
         self.slots.lock(rt).is_closed = true;
+        self.changes.fetch_add(1, Ordering::SeqCst);
         self.was_put.notify_all();
     }
 }
