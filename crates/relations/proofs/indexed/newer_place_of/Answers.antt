@@ -1,7 +1,7 @@
 use Rattle.std.proofs.Common.{arith, ap, sym, ◌∙◌}
 use Rattle.recording.specs.Event.{source}
 use Rattle.relations.specs.ForcedLaws.{source_within}
-use Rattle.relations.proofs.WritePlaces.{newer_next, newer_none, newer_places, source_place}
+use Rattle.relations.proofs.PlacedWrites.{newer_next, newer_none, newer_places, source_place}
 use Rattle.relations.proofs.indexed.newer_place_of.Goals as goal
 
 pub bounds-places-source : goal.bounds-places-source
