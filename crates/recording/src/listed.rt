@@ -69,7 +69,7 @@ impl<'p> Numbered<'p> {
     {
         let mut all = true;
         for number in 0..self.len() as EventId {
-            all = all & (marks[number as usize] | !self.event(number).writes());
+            all = all & (marks[number as usize] | self.written(number).is_none());
         }
         all
     }
@@ -86,8 +86,8 @@ impl<'p> Numbered<'p> {
         if marks[number as usize] {
             return count;
         }
-        match self.event(number).written_address() {
-            Some(address) => count.min(address as usize),
+        match self.written(number) {
+            Some((address, _)) => count.min(address as usize),
             None => count,
         }
     }

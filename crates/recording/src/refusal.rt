@@ -45,16 +45,20 @@ impl<'p> Numbered<'p> {
             (λ e. (size : RecordingSize) → (HasLists self.now → IsWithinLimits size self.now)
             → IsRefusal size self.now e) }
     {
+        let mut number: EventId = 0;
         let mut source = None;
         let mut value = None;
-        for number in 0..self.len() as EventId {
-            if !self.has_lists_of(number) {
-                return Some(RecError::Limits);
-            }
-            match self.read_fault(number) {
-                Some(ReadFault::Source) => source = source.or(Some(number)),
-                Some(ReadFault::Value) => value = value.or(Some(number)),
-                None => {}
+        for events in self.parts().cores() {
+            for event in events {
+                if !self.has_lists_of(number, event) {
+                    return Some(RecError::Limits);
+                }
+                match self.read_fault(number, event) {
+                    Some(ReadFault::Source) => source = source.or(Some(number)),
+                    Some(ReadFault::Value) => value = value.or(Some(number)),
+                    None => {}
+                }
+                number += 1;
             }
         }
         if let Some(number) = source {
