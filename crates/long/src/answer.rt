@@ -1,13 +1,14 @@
 //! The answer to a recording.
 
 ghost use Rattle.std.specs.Prelude.{◌≡◌, IfOk};
-ghost use Rattle.long.specs.Answer.{IsLongAnswer, without_labels};
+ghost use Rattle.long.specs.Answer.{IsJudged, without_labels};
 
 use crate::cut::cut;
 use crate::first::{FirstOrder, first_order};
 use crate::walking::cycle_left;
 use common::{EventId, OutOfMemory};
 use labels::Certificate;
+use recording::Recording;
 use relations::Places;
 use std::alloc::Global;
 use verdicts::Verdict;
@@ -23,20 +24,39 @@ pub enum LongAnswer {
     Cycle(Vec<EventId>),
 }
 
-/// Whether TSO allows the recording with these places, with what shows it: its least overlook if there is one, else a
-/// cycle of forced pairs of which no event is forced before another than its next, if there is one, else its first
-/// memory order of TSO in dictionary order (Nagarajan, Sorin, Hill and Wood, A Primer on Memory Consistency and Cache
+/// What is answered to a recording, with what the text of the answer asks.
+#[derive(Drop)]
+pub struct Judged<'a> {
+    /// What is answered.
+    pub answer: LongAnswer,
+    /// Where the answer is a cycle, the places of the events, which tell the reasons of its pairs.
+    pub places: Option<Places<'a>>,
+}
+
+/// Whether TSO allows a recording, with what shows it: its least overlook if there is one, else a cycle of forced pairs
+/// of which no event is forced before another than its next, if there is one, else its first memory order of TSO in
+/// dictionary order (Nagarajan, Sorin, Hill and Wood, A Primer on Memory Consistency and Cache
 /// Coherence, second edition, chapter 4). Other cycles may be shorter. The time is nearly linear in the number of
 /// events, which no clause says. It does not block. Fails only if out of memory.
-pub fn judge_long(alloc: Global, places: &Places<'_>) -> Result<LongAnswer, OutOfMemory>
-    ensures { IfOk result (IsLongAnswer places.now) }
+pub fn judge_long<'a>(alloc: Global, recording: &'a Recording) -> Result<Judged<'a>, OutOfMemory>
+    ensures { IfOk result (IsJudged recording.now) }
 {
-    match first_order(alloc, places)? {
-        FirstOrder::Order(order) => Ok(LongAnswer::Order(order)),
-        FirstOrder::Overlook(load, store) => Ok(LongAnswer::Overlook(load, store)),
-        FirstOrder::Cyclic(left) => {
+    match first_order(alloc, recording)? {
+        FirstOrder::Order(order) => Ok(Judged {
+            answer: LongAnswer::Order(order),
+            places: None,
+        }),
+        FirstOrder::Overlook(load, store) => Ok(Judged {
+            answer: LongAnswer::Overlook(load, store),
+            places: None,
+        }),
+        FirstOrder::Cyclic(places, left) => {
             let cycle = cycle_left(alloc, &left.pairs, left.waiting.counts())?;
-            Ok(LongAnswer::Cycle(cut(alloc, places, &cycle)?))
+            let answer = LongAnswer::Cycle(cut(alloc, &places, &cycle)?);
+            Ok(Judged {
+                answer,
+                places: Some(places),
+            })
         }
     }
 }

@@ -9,7 +9,8 @@ ghost use Rattle.long.specs.Positions.{ArePositions, AreInOrder};
 use crate::linking::link_all;
 use crate::newest::overlook;
 use common::{EventId, OutOfMemory};
-use relations::{Places, forced_is_exact};
+use recording::Recording;
+use relations::{Places, WritePlaces, forced_is_exact};
 use std::alloc::Global;
 
 /// For each number below a count its place in a list that has each once and nothing else; none for any other list.
@@ -54,23 +55,25 @@ fn all_follow(list: &[(EventId, EventId)], positions: &[u32]) -> bool
     true
 }
 
-/// Whether a list of any numbers is a memory order that TSO allows for the recording with these places. The time is
-/// linear in the number of events and in the length of the list, which no clause says. Fails only if out of memory.
+/// Whether a list of any numbers is a memory order that TSO allows for a recording. The time is linear in the number of
+/// events and in the length of the list, which no clause says. Fails only if out of memory.
 pub fn is_tso_order(
     alloc: Global,
-    places: &Places<'_>,
+    recording: &Recording,
     order: &[EventId],
 ) -> Result<bool, OutOfMemory>
-    ensures { IfOk result (λ is. IsTrue is ↔ IsTsoOrder places.now order.now) }
+    ensures { IfOk result (λ is. IsTrue is ↔ IsTsoOrder recording.now order.now) }
 {
-    places.sound();
+    recording.sound();
     forced_is_exact();
-    let Some(positions) = positions(alloc, order, places.len())? else {
+    let Some(positions) = positions(alloc, order, recording.len())? else {
         return Ok(false);
     };
-    if let Some(_found) = overlook(alloc, places)? {
+    let writes = WritePlaces::of(alloc, recording)?;
+    if let Some(_found) = overlook(alloc, &writes)? {
         return Ok(false);
     }
-    let linked = link_all(alloc, places)?;
+    let places = Places::of_writes(alloc, writes)?;
+    let linked = link_all(alloc, &places)?;
     Ok(all_follow(&linked.list, &positions))
 }

@@ -6,35 +6,41 @@ ghost use Rattle.long.specs.Answer.{IsFirstOrder};
 use crate::newest::overlook;
 use crate::sorting::{Sorted, Unsorted, sort};
 use common::{EventId, OutOfMemory};
-use relations::{Places, forced_is_exact, ordered_is_acyclic};
+use recording::Recording;
+use relations::{Places, WritePlaces, forced_is_exact, ordered_is_acyclic};
 use std::alloc::Global;
 
 /// What is found of a recording before any cycle is.
 #[derive(Drop)]
-pub enum FirstOrder {
+pub enum FirstOrder<'a> {
     /// The first memory order of TSO in dictionary order that explains it.
     Order(Vec<EventId>),
     /// The least read that overlooks a store of its own core, and the least store that it overlooks.
     Overlook(EventId, EventId),
-    /// Events that are left open: the forced pairs have a cycle.
-    Cyclic(Unsorted),
+    /// The places of the events, and events that are left open: the forced pairs have a cycle.
+    Cyclic(Places<'a>, Unsorted),
 }
 
-/// The least overlook of the recording with these places if there is one, else its first memory order of TSO in
-/// dictionary order if there is one (Nagarajan, Sorin, Hill and Wood, A Primer on Memory Consistency and Cache
+/// The least overlook of a recording if there is one, else its first memory order of TSO in dictionary order if there is
+/// one (Nagarajan, Sorin, Hill and Wood, A Primer on Memory Consistency and Cache
 /// Coherence, second edition, chapter 4), else events of which the forced pairs have a cycle. The time is nearly linear
 /// in the number of events, which no clause says. It does not block. Fails only if out of memory.
-pub fn first_order(alloc: Global, places: &Places<'_>) -> Result<FirstOrder, OutOfMemory>
-    ensures { IfOk result (IsFirstOrder places.now) }
+pub fn first_order<'a>(
+    alloc: Global,
+    recording: &'a Recording,
+) -> Result<FirstOrder<'a>, OutOfMemory>
+    ensures { IfOk result (IsFirstOrder recording.now) }
 {
-    places.sound();
+    recording.sound();
     forced_is_exact();
     ordered_is_acyclic();
-    if let Some((load, store)) = overlook(alloc, places)? {
+    let writes = WritePlaces::of(alloc, recording)?;
+    if let Some((load, store)) = overlook(alloc, &writes)? {
         return Ok(FirstOrder::Overlook(load, store));
     }
-    match sort(alloc, places)? {
+    let places = Places::of_writes(alloc, writes)?;
+    match sort(alloc, &places)? {
         Sorted::Ordered(order) => Ok(FirstOrder::Order(order)),
-        Sorted::Blocked(left) => Ok(FirstOrder::Cyclic(left)),
+        Sorted::Blocked(left) => Ok(FirstOrder::Cyclic(places, left)),
     }
 }

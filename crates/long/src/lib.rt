@@ -15,7 +15,7 @@ mod text;
 mod waiting;
 mod walking;
 
-pub use answer::{LongAnswer, judge_long, without_labels};
+pub use answer::{Judged, LongAnswer, judge_long, without_labels};
 pub use checking::is_tso_order;
 pub use first::{FirstOrder, first_order};
 pub use sorting::Unsorted;

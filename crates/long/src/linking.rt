@@ -64,7 +64,7 @@ fn first_newer(places: &Places<'_>, event: EventId) -> Option<EventId>
 }
 
 /// Whether an event is after the first one of a core, on that core.
-pub(crate) fn is_after(places: &Places<'_>, start: EventId, event: EventId) -> bool
+fn is_after(places: &Places<'_>, start: EventId, event: EventId) -> bool
     requires order { start ≤ event }
     requires event { event < event_count places.now }
     ensures { IsTrue result ↔ ProgramOrder places.now start event }

@@ -1,12 +1,12 @@
 //! The text of an answer.
 
 ghost use Rattle.std.specs.Prelude.{◌≡◌, ◌++◌, ℕ, List, IfOk, OnOk};
-ghost use Rattle.long.specs.Answer.{IsLongAnswer};
+ghost use Rattle.recording.specs.Execution.{Execution};
+ghost use Rattle.long.specs.Answer.{IsJudged};
 ghost use Rattle.long.specs.Texts.{IsLongText, long_outcome};
 
-use crate::answer::LongAnswer;
+use crate::answer::{Judged, LongAnswer};
 use common::OutOfMemory;
-use relations::Places;
 use std::alloc::Global;
 use texts::put_number;
 use verdicts::{Answer, Outcome, put_order, put_overlook, put_pairs};
@@ -21,16 +21,19 @@ pub fn long_outcome(answer: &LongAnswer) -> Outcome
     }
 }
 
-/// Adds the text of an answer to the recording with these places.
-fn put_long(out: &mut Vec<u8>, places: &Places<'_>, answer: &LongAnswer) -> Result<(), OutOfMemory>
-    requires { IsLongAnswer places.now answer.now }
-    ensures { OnOk result ((text : List ℕ) × IsLongText places.now answer.now text
-        × (out.new.items ≡ out.old.items ++ text)) }
+/// Adds the text of what is answered to a recording.
+fn put_long(out: &mut Vec<u8>, judged: &Judged<'_>) -> Result<(), OutOfMemory>
+    requires { (x : Execution) × IsJudged x judged.now }
+    ensures { OnOk result ((x : Execution) → IsJudged x judged.now → (text : List ℕ)
+        × IsLongText x judged.now.answer text × (out.new.items ≡ out.old.items ++ text)) }
 {
-    match answer {
+    match &judged.answer {
         LongAnswer::Order(order) => put_order(out, order),
         LongAnswer::Overlook(load, store) => put_overlook(out, *load, *store),
         LongAnswer::Cycle(cycle) => {
+            let Some(places) = &judged.places else {
+                unreachable!();
+            };
             out.extend_from_slice(b"cycle of ")?;
             put_number(out, cycle.len())?;
             out.push(b'\n')?;
@@ -39,19 +42,16 @@ fn put_long(out: &mut Vec<u8>, places: &Places<'_>, answer: &LongAnswer) -> Resu
     }
 }
 
-/// The text of an answer to the recording with these places, and its outcome: the line of an order or of an overlook,
-/// or the length of a cycle and a line for each of its pairs, with its first reason. Fails only if out of memory.
-pub fn long_text(
-    alloc: Global,
-    places: &Places<'_>,
-    answer: &LongAnswer,
-) -> Result<Answer, OutOfMemory>
-    requires { IsLongAnswer places.now answer.now }
-    ensures outcome { IfOk result (λ printed. printed.outcome ≡ long_outcome answer.now) }
-    ensures text { IfOk result (λ printed. IsLongText places.now answer.now printed.text.items) }
+/// The text of what is answered to a recording, and its outcome: the line of an order or of an overlook, or the length
+/// of a cycle and a line for each of its pairs, with its first reason. Fails only if out of memory.
+pub fn long_text(alloc: Global, judged: &Judged<'_>) -> Result<Answer, OutOfMemory>
+    requires { (x : Execution) × IsJudged x judged.now }
+    ensures outcome { IfOk result (λ printed. printed.outcome ≡ long_outcome judged.now.answer) }
+    ensures text { IfOk result (λ printed. (x : Execution) → IsJudged x judged.now
+        → IsLongText x judged.now.answer printed.text.items) }
 {
     let mut text = Vec::new(alloc);
-    put_long(&mut text, places, answer)?;
-    let outcome = long_outcome(answer);
+    put_long(&mut text, judged)?;
+    let outcome = long_outcome(&judged.answer);
     Ok(Answer { outcome, text })
 }
