@@ -14,7 +14,6 @@ use program_events::named_program;
 use recorder::write_recording;
 use recording::Recording;
 use reduction::reduce_long;
-use relations::Places;
 use std::alloc::Global;
 use verdicts::Answer;
 
@@ -25,8 +24,8 @@ pub(crate) fn long_answer_to(
 ) -> Result<LongAnswer, OutOfMemory>
     ensures { IfOk result (IsLongAnswer recording.now) }
 {
-    let places = Places::of(alloc, recording)?;
-    judge_long(alloc, &places)
+    let judged = judge_long(alloc, recording)?;
+    Ok(judged.answer)
 }
 
 /// Whether a recording is no larger than a program.
@@ -51,9 +50,8 @@ fn append_part(alloc: Global, mut text: Vec<u8>, part: &Recording) -> Result<Ans
     }
     let line = write_recording(alloc, part)?;
     text.extend_from_slice(&line)?;
-    let places = Places::of(alloc, part)?;
-    let found = judge_long(alloc, &places)?;
-    let said = long_text(alloc, &places, &found)?;
+    let judged = judge_long(alloc, part)?;
+    let said = long_text(alloc, &judged)?;
     text.extend_from_slice(&said.text)?;
     Ok(Answer {
         outcome: said.outcome,
@@ -72,15 +70,14 @@ pub(crate) fn long_reduced_answer(
 ) -> Result<Answer, OutOfMemory>
     ensures { IfOk result (IsLongReducedAnswer recording.now labels.now) }
 {
-    let places = Places::of(alloc, recording)?;
-    let found = judge_long(alloc, &places)?;
-    match reduce_long(alloc, recording, &found)? {
+    let judged = judge_long(alloc, recording)?;
+    match reduce_long(alloc, recording, &judged.answer)? {
         Some(reduced) => {
             reduced.recording.sound();
             let text = heading_of(alloc, &reduced.events, Some(labels))?;
             let answer = append_part(alloc, text, &reduced.recording)?;
             Ok(answer)
         }
-        None => long_text(alloc, &places, &found),
+        None => long_text(alloc, &judged),
     }
 }

@@ -14,7 +14,7 @@ use common::OutOfMemory;
 use labels::Certificate;
 use long::{FirstOrder, first_order};
 use recording::Recording;
-use relations::{Places, Relation, forced_is_exact, ordered_is_acyclic, relation_is_forced};
+use relations::{Relation, forced_is_exact, ordered_is_acyclic, relation_is_forced};
 use search::shortest_cycle;
 use std::alloc::Global;
 use std::sync::Arc;
@@ -31,11 +31,13 @@ pub(crate) fn verdict_or_cyclic(
     ensures verified { IfOk result (λ found. IfOk found (Verifies recording.now)) }
     ensures cyclic { IfOk result (λ found. IfErr found (IsCyclicTable recording.now)) }
 {
-    let places = Places::of(alloc, recording)?;
-    match first_order(alloc, &places)? {
+    match first_order(alloc, recording)? {
         FirstOrder::Order(order) => Ok(Ok(Verdict::Ordered(order))),
         FirstOrder::Overlook(load, store) => Ok(Ok(Verdict::Overlook { load, store })),
-        FirstOrder::Cyclic(_) => Ok(Err(places.into_relation(alloc)?)),
+        FirstOrder::Cyclic(places, left) => {
+            drop(left);
+            Ok(Err(places.into_relation(alloc)?))
+        }
     }
 }
 

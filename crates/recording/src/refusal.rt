@@ -50,10 +50,10 @@ impl<'p> Numbered<'p> {
         let mut value = None;
         for events in self.parts().cores() {
             for event in events {
-                if !self.has_lists_of(number, event) {
+                if !self.has_lists_of(event) {
                     return Some(RecError::Limits);
                 }
-                match self.read_fault(number, event) {
+                match self.read_fault(event) {
                     Some(ReadFault::Source) => source = source.or(Some(number)),
                     Some(ReadFault::Value) => value = value.or(Some(number)),
                     None => {}

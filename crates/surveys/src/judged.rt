@@ -21,7 +21,6 @@ use ledger::Finding;
 use long::{LongAnswer, judge_long};
 use recorder::{read_recording, read_recording_of};
 use recording::{RecError, Recording, RecordingSize};
-use relations::Places;
 use std::alloc::Global;
 use values::Values;
 use values_text::read_values;
@@ -79,9 +78,8 @@ fn found_in_long(alloc: Global, recording: &Recording) -> Result<Finding, OutOfM
     ensures { IfOk result (λ f. (answer : LongAnswer) × IsLongAnswer recording.now answer
         × (f ≡ long_finding answer)) }
 {
-    let places = Places::of(alloc, recording)?;
-    let answer = judge_long(alloc, &places)?;
-    Ok(long_finding(&answer))
+    let judged = judge_long(alloc, recording)?;
+    Ok(long_finding(&judged.answer))
 }
 
 /// What is found in the recording within the large limits that the bytes of a line give, or its refusal. It does not

@@ -9,7 +9,6 @@ use judge::{judge_alone, judge_gated};
 use long::{judge_long, long_text};
 use recorder::read_recording_of;
 use recording::{Recording, RecordingSize};
-use relations::Places;
 use std::alloc::Global;
 use std::sync::Wait;
 use std::thread::Threads;
@@ -47,9 +46,8 @@ pub fn read_or_refuse(alloc: Global, bytes: &[u8]) -> Result<Result<Recording, A
 fn long_answer_to(alloc: Global, recording: &Recording) -> Result<Answer, OutOfMemory>
     ensures { IfOk result (IsLongAnswerTo recording.now) }
 {
-    let places = Places::of(alloc, recording)?;
-    let found = judge_long(alloc, &places)?;
-    long_text(alloc, &places, &found)
+    let judged = judge_long(alloc, recording)?;
+    long_text(alloc, &judged)
 }
 
 /// The text of the answer to the recording of any length that the bytes are, or the line of their refusal: an order,

@@ -9,24 +9,14 @@ ghost use Rattle.relations.specs.Forced.{Forced};
 ghost use Rattle.labels.specs.Certified.{lists_of};
 ghost use Rattle.verdicts.specs.Verified.{Verifies, Means};
 
-use common::{EventId, MAX_EVENTS, OutOfMemory};
+use common::{MAX_EVENTS, OutOfMemory};
 use labels::{Certificate, check, check_par};
 use long::is_tso_order;
 use recording::Recording;
-use relations::{
-    Places, Relation, forced_is_exact, is_overlook, ordered_is_acyclic, relation_is_forced,
-};
+use relations::{Relation, forced_is_exact, is_overlook, ordered_is_acyclic, relation_is_forced};
 use std::alloc::Global;
 use std::thread::Threads;
 use verdicts::Verdict;
-
-/// Whether a list of any numbers is a memory order of TSO.
-fn is_ordered(alloc: Global, recording: &Recording, events: &[EventId]) -> Result<bool, OutOfMemory>
-    ensures { IfOk result (λ is. IsTrue is ↔ IsTsoOrder recording.now events.now) }
-{
-    let places = Places::of(alloc, recording)?;
-    is_tso_order(alloc, &places, events)
-}
 
 /// Whether a cycle with labels shows that none is shorter, by threads.
 fn is_certified_par<R: Threads + Sync>(
@@ -58,7 +48,7 @@ pub fn verify(alloc: Global, recording: &Recording, verdict: &Verdict) -> Result
     relation_is_forced();
     match verdict {
         Verdict::Ordered(order) => {
-            let yes = is_ordered(alloc, recording, order)?;
+            let yes = is_tso_order(alloc, recording, order)?;
             Ok(yes)
         }
         Verdict::Overlook { load, store } => Ok(is_overlook(recording, *load, *store)),

@@ -1,5 +1,6 @@
 use Rattle.std.proofs.Common.{◌≡◌, ◌∙◌, length, arith, refl, ap}
 use borrow.Author.Count.{below_more}
+use Rattle.recording.specs.declared.event.Event.{Event}
 use Rattle.recording.specs.declared.event.Event.TheVariants.{F}
 use Rattle.recording.specs.Execution.{Execution, event_count}
 use Rattle.recording.specs.Listed.{HasListsOf}
@@ -20,19 +21,14 @@ loop-event-init c =
       reads = was.reads;
     }
 
-pub has_lists_of-requires : goal.has_lists_of-requires
-has_lists_of-requires c = (reached_event c.args.self.now c.loop-events.events-index c.loop-event.event-index
-    c.loop-event.number c.deref-event-items.result.now _ c.loop-event.invariant.core c.loop-event-test.true
-    c.loop-event.invariant.reached).1
-
 pub returns-then-not-has_lists_of : goal.returns-then-not-has_lists_of
 returns-then-not-has_lists_of c size limits within =
-    let has = c.if-not-has_lists_of.ensures.1 (λ a uses. within.addresses c.loop-event.number a uses) in absurd cc
-
-pub read_fault-requires : goal.read_fault-requires
-read_fault-requires c = (reached_event c.args.self.now c.loop-events.events-index c.loop-event.event-index
-    c.loop-event.number c.deref-event-items.result.now _ c.loop-event.invariant.core c.loop-event-test.true
-    c.loop-event.invariant.reached).1
+    let stands = λ (d : Event). (reached_event c.args.self.now c.loop-events.events-index c.loop-event.event-index
+    c.loop-event.number c.deref-event-items.result.now d c.loop-event.invariant.core c.loop-event-test.true
+    c.loop-event.invariant.reached).1 in
+    let has = (c.if-not-has_lists_of.ensures c.loop-event.number (stands _)).1
+    (λ a uses. within.addresses c.loop-event.number a uses) in
+    absurd cc
 
 pub overflow_add-number : goal.overflow_add-number
 overflow_add-number c =
@@ -46,9 +42,11 @@ loop-event-preserved c =
     let x = c.args.self.now in
     let n = c.loop-event.number in
     let was = c.loop-event.invariant in
+    let stands = λ (d : Event). (reached_event x c.loop-events.events-index c.loop-event.event-index n
+    c.deref-event-items.result.now d was.core c.loop-event-test.true was.reached).1 in
     let next = reached_next x c.loop-events.events-index c.loop-event.event-index n c.deref-event-items.result.now
     was.core c.loop-event-test.true was.reached in
-    let lists = below_more (HasListsOf x) n was.lists (c.if-not-has_lists_of.ensures.0 refl) in
+    let lists = below_more (HasListsOf x) n was.lists ((c.if-not-has_lists_of.ensures n (stands _)).0 refl) in
     elim c.match-read_fault.branch [
       | in-Some-Source w ↦ rw (w.source-is, w.value-is) (record {
         core = was.core;
@@ -56,10 +54,10 @@ loop-event-preserved c =
         lists = lists;
         reads = rw w.or-source.ensures
             (source_wrong x n c.loop-event.source c.loop-event.value
-            (rw w.in-Some-Source.field-0-is at w.in-Some-Source.ensures) was.reads);
+            (rw w.in-Some-Source.field-0-is at w.in-Some-Source.ensures n (stands _)) was.reads);
       })
       | in-Some-Value w ↦
-          let wrong = rw w.in-Some-Value.field-0-is at w.in-Some-Value.ensures in
+          let wrong = rw w.in-Some-Value.field-0-is at w.in-Some-Value.ensures n (stands _) in
           rw (w.source-is, w.value-is) (record {
             core = was.core;
             reached = next;
@@ -68,7 +66,7 @@ loop-event-preserved c =
                 (value_wrong x n c.loop-event.source c.loop-event.value wrong.0 wrong.1 was.reads);
           })
       | in-None w ↦
-          let right = rw w.in-None.is at c.read_fault.ensures in
+          let right = rw w.in-None.is at c.read_fault.ensures n (stands _) in
           rw (w.source-is, w.value-is) (record {
             core = was.core;
             reached = next;
