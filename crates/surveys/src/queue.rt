@@ -17,8 +17,8 @@ const SLOTS: usize = 512;
 /// How many bytes a batch has at least, but for the last one of a block.
 const BATCH: usize = 16_384;
 
-/// How often a thread looks for what it needs before it sleeps, where nothing lies here: some 150 microseconds in all,
-/// since to wake it may take longer than to judge a batch of short recordings.
+/// How often a thread looks for what it needs after a change before it sleeps, where nothing lies here: some 150
+/// microseconds in all, since to wake it may take longer than to judge a batch of short recordings.
 const LOOKS: usize = 512;
 
 /// How often it does while something lies here, so that more is to come soon: some 5 milliseconds in all, since where
@@ -334,11 +334,11 @@ impl WorkQueue {
         self.was_judged.notify_one();
     }
 
-    /// The next batch, if one waits by the time that all looks are over.
+    /// The next batch, if one waits by the time that all looks are over. Their count begins anew with each change.
     fn take_soon<R: Wait>(&self, rt: &R) -> Option<(usize, Batch)> {
         let mut seen = usize::MAX;
-        let mut looks = LOOKS;
-        for look in 0..LOOKS_AT_WORK {
+        let mut left = LOOKS;
+        for _ in 0..LOOKS_AT_WORK + LOOKS {
             let changes = self.changes.load(Ordering::SeqCst);
             if changes != seen {
                 seen = changes;
@@ -346,11 +346,12 @@ impl WorkQueue {
                 if let Some(found) = held.take() {
                     return Some(found);
                 }
-                looks = held.looks();
+                left = held.looks();
             }
-            if look >= looks {
+            if left == 0 {
                 return None;
             }
+            left -= 1;
             thread::yield_now();
         }
         None
