@@ -12,7 +12,7 @@ use crate::printed::first_difference;
 use crate::reading::read_answer;
 use crate::row_lines::put_rows_that_hold;
 use crate::text_check::TextCheck;
-use crate::unlabelled::{is_witness, put_answer};
+use crate::unlabelled::put_answer_that_holds;
 use common::{MAX_EVENTS, OutOfMemory};
 use long::LongAnswer;
 use recording::Recording;
@@ -34,10 +34,8 @@ fn is_one_line(answer: &LongAnswer) -> bool
 fn line_that_holds(
     alloc: Global,
     recording: &Recording,
-    places: &Places<'_>,
     text: &[u8],
 ) -> Result<Vec<u8>, OutOfMemory>
-    requires { places.now ≡ recording.now }
     ensures { IfOk result (λ v. IsMost (IsLineOrNone recording.now) text.now v.items) }
 {
     recording.sound();
@@ -49,11 +47,7 @@ fn line_that_holds(
     if !is_one_line(&answer) {
         return Ok(line);
     }
-    let holds = is_witness(alloc, recording, places, &answer)?;
-    if !holds {
-        return Ok(line);
-    }
-    put_answer(&mut line, places, &answer)?;
+    let _holds = put_answer_that_holds(&mut line, alloc, recording, &answer)?;
     Ok(line)
 }
 
@@ -90,13 +84,13 @@ pub(crate) fn fault(
     ensures fails { IfOk result (λ f. f ≢ Holds) }
 {
     recording.sound();
-    let places = Places::of(alloc, recording)?;
     let mut rest = Cursor::new(text);
     if rest.take(b"cycle of ") {
+        let places = Places::of(alloc, recording)?;
         let lines = cycle_that_holds(alloc, recording, &places, &mut rest)?;
         return Ok(first_difference(text, &lines));
     }
-    let line = line_that_holds(alloc, recording, &places, text)?;
+    let line = line_that_holds(alloc, recording, text)?;
     Ok(first_difference(text, &line))
 }
 
@@ -104,21 +98,20 @@ pub(crate) fn fault(
 pub(crate) fn long_fault(
     alloc: Global,
     recording: &Recording,
-    places: &Places<'_>,
     text: &[u8],
 ) -> Result<TextCheck, OutOfMemory>
-    requires { places.now ≡ recording.now }
     ensures line { IfOk result (NamesFault (LongLinesHold recording.now (longest_cycle text.now)) text.now) }
     ensures fails { IfOk result (λ f. f ≢ Holds) }
 {
     recording.sound();
     let mut rest = Cursor::new(text);
     if rest.take(b"cycle of ") {
+        let places = Places::of(alloc, recording)?;
         let mut lines = Vec::new(alloc);
         let most = rest.bytes_left();
-        let _size = put_cycle_that_holds(&mut lines, places, &mut rest, most)?;
+        let _size = put_cycle_that_holds(&mut lines, &places, &mut rest, most)?;
         return Ok(first_difference(text, &lines));
     }
-    let line = line_that_holds(alloc, recording, places, text)?;
+    let line = line_that_holds(alloc, recording, text)?;
     Ok(first_difference(text, &line))
 }

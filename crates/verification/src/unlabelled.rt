@@ -1,10 +1,10 @@
 //! The check of a text without labels.
 
-ghost use Rattle.std.specs.Prelude.{◌≡◌, ◌++◌, ◌↔◌, ℕ, List, IfOk, IsTrue, MatchOption, OnOk};
+ghost use Rattle.std.specs.Prelude.{◌≡◌, ◌++◌, ◌↔◌, ℕ, List, false, IfOk, IsTrue, MatchOption, OnOk};
 ghost use Rattle.relations.specs.Cycle.{IsCycle};
 ghost use Rattle.relations.specs.Forced.{Forced};
 ghost use Rattle.long.specs.Answer.{IsWitness};
-ghost use Rattle.long.specs.Texts.{IsLongText};
+ghost use Rattle.long.specs.Texts.{ArePairs, IsLongText};
 ghost use Rattle.long.specs.declared.answer.LongAnswer.{LongAnswer as Given};
 ghost use Rattle.verification.specs.declared.text_check.TextCheck.TheVariants.{Holds};
 ghost use Rattle.verification.specs.Faults.{LongLinesHold, NamesFault, longest_cycle};
@@ -51,77 +51,68 @@ fn is_cycle(places: &Places<'_>, cycle: &[EventId]) -> bool
     cycle.len() > 0
 }
 
-/// Whether an answer holds of the recording with these places.
-pub(crate) fn is_witness(
-    alloc: Global,
-    recording: &Recording,
-    places: &Places<'_>,
-    answer: &LongAnswer,
-) -> Result<bool, OutOfMemory>
-    requires { places.now ≡ recording.now }
-    ensures { IfOk result (λ is. IsTrue is ↔ IsWitness recording.now answer.now) }
-{
-    match answer {
-        LongAnswer::Order(order) => is_tso_order(alloc, places, order),
-        LongAnswer::Overlook(load, store) => Ok(is_overlook(recording, *load, *store)),
-        LongAnswer::Cycle(cycle) => Ok(is_cycle(places, cycle)),
-    }
-}
-
-/// Adds the text of an answer that holds of the recording with these places.
-pub(crate) fn put_answer(
-    out: &mut Vec<u8>,
-    places: &Places<'_>,
-    answer: &LongAnswer,
-) -> Result<(), OutOfMemory>
-    requires { IsWitness places.now answer.now }
-    ensures { OnOk result ((text : List ℕ) × IsLongText places.now answer.now text
+/// Adds the text of a cycle of forced pairs of the recording with these places, without labels.
+fn put_cycle(out: &mut Vec<u8>, places: &Places<'_>, cycle: &[EventId]) -> Result<(), OutOfMemory>
+    requires { IsCycle (Forced places.now) cycle.now }
+    ensures { OnOk result ((text : List ℕ) × ArePairs places.now cycle.now text
         × (out.new.items ≡ out.old.items ++ text)) }
 {
+    put_text_and_number(out, b"cycle of ", cycle.len())?;
+    out.push(b'\n')?;
+    put_pairs(out, places, cycle)
+}
+
+/// Adds the text of an answer to a recording if it holds, and says whether it does.
+pub(crate) fn put_answer_that_holds(
+    out: &mut Vec<u8>,
+    alloc: Global,
+    recording: &Recording,
+    answer: &LongAnswer,
+) -> Result<bool, OutOfMemory>
+    ensures exact { IfOk result (λ holds. IsTrue holds ↔ IsWitness recording.now answer.now) }
+    ensures text { IfOk result (λ holds. IsTrue holds → (text : List ℕ)
+        × IsLongText recording.now answer.now text × (out.new.items ≡ out.old.items ++ text)) }
+    ensures nothing { IfOk result (λ holds. holds ≡ false → out.new.items ≡ out.old.items) }
+{
     match answer {
-        LongAnswer::Order(order) => put_order(out, order),
-        LongAnswer::Overlook(load, store) => put_overlook(out, *load, *store),
+        LongAnswer::Order(order) => {
+            let holds = is_tso_order(alloc, recording, order)?;
+            if holds {
+                put_order(out, order)?;
+            }
+            Ok(holds)
+        }
+        LongAnswer::Overlook(load, store) => {
+            let holds = is_overlook(recording, *load, *store);
+            if holds {
+                put_overlook(out, *load, *store)?;
+            }
+            Ok(holds)
+        }
         LongAnswer::Cycle(cycle) => {
-            put_text_and_number(out, b"cycle of ", cycle.len())?;
-            out.push(b'\n')?;
-            put_pairs(out, places, cycle)
+            let places = Places::of(alloc, recording)?;
+            let holds = is_cycle(&places, cycle);
+            if holds {
+                put_cycle(out, &places, cycle)?;
+            }
+            Ok(holds)
         }
     }
 }
 
-/// Whether a text is that of an answer that holds.
-fn is_answer_text(
-    alloc: Global,
-    places: &Places<'_>,
-    text: &[u8],
-    answer: &LongAnswer,
-) -> Result<bool, OutOfMemory>
-    requires { IsWitness places.now answer.now }
-    ensures { IfOk result (λ is. IsTrue is ↔ IsLongText places.now answer.now text.now) }
-{
-    let mut printed = Vec::new(alloc);
-    put_answer(&mut printed, places, answer)?;
-    Ok(is_printed(text, &printed))
-}
-
 /// Whether a text is a proof without labels.
-fn is_long_proof(
-    alloc: Global,
-    recording: &Recording,
-    places: &Places<'_>,
-    text: &[u8],
-) -> Result<bool, OutOfMemory>
-    requires { places.now ≡ recording.now }
+fn is_long_proof(alloc: Global, recording: &Recording, text: &[u8]) -> Result<bool, OutOfMemory>
     ensures { IfOk result (λ is. IsTrue is ↔ IsLongProof recording.now text.now) }
 {
     let Some(answer) = read_long(alloc, recording, text)? else {
         return Ok(false);
     };
-    let holds = is_witness(alloc, recording, places, &answer)?;
+    let mut printed = Vec::new(alloc);
+    let holds = put_answer_that_holds(&mut printed, alloc, recording, &answer)?;
     if !holds {
         return Ok(false);
     }
-    is_answer_text(alloc, places, text, &answer)
+    Ok(is_printed(text, &printed))
 }
 
 /// Whether a text is what a recording of any length has, whoever wrote it: the line of any memory order of TSO, of any
@@ -138,10 +129,9 @@ pub fn check_long_text(
     ensures line { IfOk result (NamesFault (LongLinesHold recording.now (longest_cycle text.now)) text.now) }
 {
     every_answer_holds();
-    let places = Places::of(alloc, recording)?;
-    let is_proof = is_long_proof(alloc, recording, &places, text)?;
+    let is_proof = is_long_proof(alloc, recording, text)?;
     if is_proof {
         return Ok(TextCheck::Holds);
     }
-    long_fault(alloc, recording, &places, text)
+    long_fault(alloc, recording, text)
 }
