@@ -1,6 +1,5 @@
-use Rattle.std.proofs.Common.{◌++◌, ◌∙◌, ℕ, List, [], subst, sym, ap}
+use Rattle.std.proofs.Common.{◌≡◌, ◌++◌, ◌∙◌, ◌⊎◌, inl, inr, ℕ, Bool, true, false, IsTrue, List, [], refl, subst, sym, ap}
 use Rattle.std.proofs.lemmas.Bool.{false≢true}
-use Rattle.recording.specs.Execution.{Execution}
 use Rattle.long.specs.Texts.{IsLongText}
 use Rattle.verification.specs.Held.{IsLineOrNone, IsMost}
 use Rattle.verification.specs.Spelled.{HasSizes, IsSameAnswer, SpellsAnswer}
@@ -26,26 +25,30 @@ returns-then-not-is_one_line c =
     let same : IsSameAnswer a c.in-Some.answer = rw c.in-Some.is at r.0 in
     false≢true (sym c.if-not-is_one_line.true ∙ c.is_one_line.ensures.1 (same_one_line a c.in-Some.answer same one))))
 
-pub returns-then-not-holds : goal.returns-then-not-holds
-returns-then-not-holds c =
-    let x = c.args.recording.now in
-    subst (λ (t : List ℕ). IsMost (IsLineOrNone x) c.args.text.now t) (sym c.new-line.ensures.items)
-    (no_line x c.sound.ensures c.args.text.now (λ a one witness is.
-    let r = c.in_ok-answer.ensures a [] (subst (λ (n : ℕ). HasSizes n 0 a) (sym c.len.ensures) is.sizes)
-    (subst (SpellsAnswer a []) (sym c.new-rest.ensures) is.spelled) in
-    let same : IsSameAnswer a c.in-Some.answer = rw c.in-Some.is at r.0 in
-    false≢true (sym c.if-not-holds.true ∙ c.in_ok-holds.ensures.1 (same_witness x a c.in-Some.answer same witness))))
+-- an answer holds, or not
+either : (holds : Bool) → IsTrue holds ⊎ (holds ≡ false)
+either true = inl refl
+either false = inr refl
 
 pub returns : goal.returns
 returns c =
     let x = c.args.recording.now in
     let a = c.in-Some.answer in
-    let printed = c.in_ok-put_answer.ensures in
-    line_held x c.sound.ensures c.args.text.now a c.put_answer.new.out.items
-    (c.is_one_line.ensures.0 c.if-not-is_one_line.false)
-    (subst (λ (y : Execution). IsLongText y a c.put_answer.new.out.items) c.requires
-    (subst (IsLongText c.args.places.now a)
-    (sym (printed.2 ∙ ap (λ (t : List ℕ). t ++ printed.0) c.new-line.ensures.items)) printed.1))
-    (c.in_ok-holds.ensures.0 c.if-not-holds.false) (λ b is.
-    let r = c.in_ok-answer.ensures b [] (subst (λ (n : ℕ). HasSizes n 0 b) (sym c.len.ensures) is.sizes)
-    (subst (SpellsAnswer b []) (sym c.new-rest.ensures) is.spelled) in rw c.in-Some.is at r.0)
+    elim (either c.in_ok-_holds._holds) [
+      | inl right ↦
+          let printed = c.in_ok-_holds.ensures.text right in
+          line_held x c.sound.ensures c.args.text.now a c.put_answer_that_holds.new.out.items
+          (c.is_one_line.ensures.0 c.if-not-is_one_line.false)
+          (subst (IsLongText x a)
+          (sym (printed.2 ∙ ap (λ (t : List ℕ). t ++ printed.0) c.new-line.ensures.items)) printed.1)
+          (c.in_ok-_holds.ensures.exact.0 right) (λ b is.
+          let r = c.in_ok-answer.ensures b [] (subst (λ (n : ℕ). HasSizes n 0 b) (sym c.len.ensures) is.sizes)
+          (subst (SpellsAnswer b []) (sym c.new-rest.ensures) is.spelled) in rw c.in-Some.is at r.0)
+      | inr wrong ↦ subst (λ (t : List ℕ). IsMost (IsLineOrNone x) c.args.text.now t)
+          (sym (c.in_ok-_holds.ensures.nothing wrong ∙ c.new-line.ensures.items))
+          (no_line x c.sound.ensures c.args.text.now (λ b one witness is.
+          let r = c.in_ok-answer.ensures b [] (subst (λ (n : ℕ). HasSizes n 0 b) (sym c.len.ensures) is.sizes)
+          (subst (SpellsAnswer b []) (sym c.new-rest.ensures) is.spelled) in
+          let same : IsSameAnswer b a = rw c.in-Some.is at r.0 in
+          false≢true (sym wrong ∙ c.in_ok-_holds.ensures.exact.1 (same_witness x b a same witness))))
+    ]

@@ -21,9 +21,9 @@ returns-then-take-clause-line c =
     (subst (λ (t : List ℕ). IsMost (LongLinesHold x most) t lines) (sym begins)
     (subst (IsMost (LongLinesHold x most) _) (sym c.deref.ensures.value)
     (long_cycle_most x most _ c.put_cycle_that_holds.new.out.items c.put_cycle_that_holds.new.rest c.in_ok-_size._size
-    (held_as c.args.places.now x c.bytes_left-most.result most _ c.new-lines.result.items
+    (held_as c.in_ok-places.places x c.bytes_left-most.result most _ c.new-lines.result.items
     c.put_cycle_that_holds.new.out.items c.put_cycle_that_holds.new.rest c.in_ok-_size._size c.in_ok-_size._size
-    c.requires left c.new-lines.ensures.items refl c.in_ok-_size.ensures))))
+    c.in_ok-places.ensures left c.new-lines.ensures.items refl c.in_ok-_size.ensures))))
     c.first_difference.ensures
 
 pub returns-clause-line : goal.returns-clause-line
