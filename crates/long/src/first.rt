@@ -21,10 +21,10 @@ pub enum FirstOrder<'a> {
     Cyclic(Places<'a>, Unsorted),
 }
 
-/// The least overlook of a recording if there is one, else its first memory order of TSO in dictionary order if there is
-/// one (Nagarajan, Sorin, Hill and Wood, A Primer on Memory Consistency and Cache
-/// Coherence, second edition, chapter 4), else events of which the forced pairs have a cycle. The time is nearly linear
-/// in the number of events, which no clause says. It does not block. Fails only if out of memory.
+/// The least overlook of a recording if there is one, else its first memory order of TSO in dictionary order if there
+/// is one (Nagarajan, Sorin, Hill and Wood, A Primer on Memory Consistency and Cache Coherence, second edition, chapter
+/// 4), else events of which the forced pairs have a cycle. The time is nearly linear in the number of events, which no
+/// clause says. It does not block. Fails only if out of memory.
 pub fn first_order<'a>(
     alloc: Global,
     recording: &'a Recording,

@@ -42,8 +42,8 @@ fn put_places(recording: &Recording, address: Addr, places: &mut [WritePlace])
     }
 }
 
-/// A recording with the places of its writes in its write lists, 8 bytes an event: what tells the newer of two writes of
-/// an address.
+/// A recording with the places of its writes in its write lists, 8 bytes an event: what tells the newer of two writes
+/// of an address.
 #[derive(Drop)]
 pub struct WritePlaces<'a> {
     recording: &'a Recording,
@@ -94,7 +94,7 @@ impl<'a> WritePlaces<'a> {
         self.places.as_slice()
     }
 
-    /// Where a write stands in the write list of its address.
+    /// Where a write stands in the write list of its address, from 0 on. Of an event that does not write it says nothing.
     pub fn place(&self, number: EventId) -> u32
         requires { number < event_count self.now }
         ensures { (a : ℕ) → Writes self.now number a → result ≡ place (write_list self.now a) number }
