@@ -1,5 +1,5 @@
 -- What is answered to a recording of any length.
-use Rattle.std.specs.Prelude.{◌≡◌, ℕ, Option, Some, List, ⊤}
+use Rattle.std.specs.Prelude.{◌≡◌, ℕ, Option, Some, None, List}
 use Rattle.recording.specs.Execution.{Execution}
 use Rattle.recording.specs.Tso.{IsTsoOrder}
 use Rattle.relations.specs.Cycle.{IsCycle}
@@ -31,13 +31,13 @@ IsLongAnswer x (Order m) = IsOrderedVerdict x m.items
 IsLongAnswer x (Overlook l s) = IsLeastOverlook x l s × HasNoOrder x
 IsLongAnswer x (Cycle c) = IsCritical (Forced x) c.items × HasNoOverlook x × HasNoOrder x
 
--- with a cycle there is the execution
+-- with a cycle, and with nothing else, there is the execution
 abbrev pub HasPlaces : Execution → LongAnswer → Option Execution → Type 0
-HasPlaces x (Order m) places = ⊤
-HasPlaces x (Overlook l s) places = ⊤
+HasPlaces x (Order m) places = places ≡ None
+HasPlaces x (Overlook l s) places = places ≡ None
 HasPlaces x (Cycle c) places = places ≡ Some x
 
--- an answer to an execution, and with a cycle the execution
+-- an answer to an execution, and with a cycle, and with nothing else, the execution
 pub record IsJudged (x : Execution) (j : Judged) : Type 0 where
   pub answer : IsLongAnswer x j.answer
   pub places : HasPlaces x j.answer j.places

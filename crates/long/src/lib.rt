@@ -19,4 +19,4 @@ pub use answer::{Judged, LongAnswer, judge_long, without_labels};
 pub use checking::is_tso_order;
 pub use first::{FirstOrder, first_order};
 pub use sorting::Unsorted;
-pub use text::{long_outcome, long_text};
+pub use text::{long_outcome, long_text, put_cycle};

@@ -2,13 +2,16 @@
 
 ghost use Rattle.std.specs.Prelude.{◌≡◌, ◌++◌, ℕ, List, IfOk, OnOk};
 ghost use Rattle.recording.specs.Execution.{Execution};
+ghost use Rattle.relations.specs.Cycle.{IsCycle};
+ghost use Rattle.relations.specs.Forced.{Forced};
 ghost use Rattle.long.specs.Answer.{IsJudged};
-ghost use Rattle.long.specs.Texts.{IsLongText, long_outcome};
+ghost use Rattle.long.specs.Texts.{ArePairs, IsLongText, long_outcome};
 
 use crate::answer::{Judged, LongAnswer};
-use common::OutOfMemory;
+use common::{EventId, OutOfMemory};
+use relations::Places;
 use std::alloc::Global;
-use texts::put_number;
+use texts::put_text_and_number;
 use verdicts::{Answer, Outcome, put_order, put_overlook, put_pairs};
 
 /// The outcome of an answer: only an order is no violation.
@@ -19,6 +22,22 @@ pub fn long_outcome(answer: &LongAnswer) -> Outcome
         LongAnswer::Order(_) => Outcome::Ordered,
         LongAnswer::Overlook(_, _) | LongAnswer::Cycle(_) => Outcome::Violation,
     }
+}
+
+/// Adds the length of a cycle of forced pairs of the recording with these places, and a line for each of its pairs, with
+/// its first reason. Fails only if out of memory.
+pub fn put_cycle(
+    out: &mut Vec<u8>,
+    places: &Places<'_>,
+    cycle: &[EventId],
+) -> Result<(), OutOfMemory>
+    requires { IsCycle (Forced places.now) cycle.now }
+    ensures { OnOk result ((text : List ℕ) × ArePairs places.now cycle.now text
+        × (out.new.items ≡ out.old.items ++ text)) }
+{
+    put_text_and_number(out, b"cycle of ", cycle.len())?;
+    out.push(b'\n')?;
+    put_pairs(out, places, cycle)
 }
 
 /// Adds the text of what is answered to a recording.
@@ -34,10 +53,7 @@ fn put_long(out: &mut Vec<u8>, judged: &Judged<'_>) -> Result<(), OutOfMemory>
             let Some(places) = &judged.places else {
                 unreachable!();
             };
-            out.extend_from_slice(b"cycle of ")?;
-            put_number(out, cycle.len())?;
-            out.push(b'\n')?;
-            put_pairs(out, places, cycle)
+            put_cycle(out, places, cycle)
         }
     }
 }

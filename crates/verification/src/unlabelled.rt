@@ -4,7 +4,7 @@ ghost use Rattle.std.specs.Prelude.{◌≡◌, ◌++◌, ◌↔◌, ℕ, List, f
 ghost use Rattle.relations.specs.Cycle.{IsCycle};
 ghost use Rattle.relations.specs.Forced.{Forced};
 ghost use Rattle.long.specs.Answer.{IsWitness};
-ghost use Rattle.long.specs.Texts.{ArePairs, IsLongText};
+ghost use Rattle.long.specs.Texts.{IsLongText};
 ghost use Rattle.long.specs.declared.answer.LongAnswer.{LongAnswer as Given};
 ghost use Rattle.verification.specs.declared.text_check.TextCheck.TheVariants.{Holds};
 ghost use Rattle.verification.specs.Faults.{LongLinesHold, NamesFault, longest_cycle};
@@ -17,12 +17,12 @@ use crate::printed::is_printed;
 use crate::reading::read_answer;
 use crate::text_check::TextCheck;
 use common::{EventId, OutOfMemory};
-use long::{LongAnswer, is_tso_order};
+use long::{LongAnswer, is_tso_order, put_cycle};
 use recording::Recording;
 use relations::{Places, is_overlook, next_in_cycle};
 use std::alloc::Global;
-use texts::{Cursor, put_text_and_number};
-use verdicts::{put_order, put_overlook, put_pairs};
+use texts::Cursor;
+use verdicts::{put_order, put_overlook};
 
 /// The answer with the numbers of a text, whatever stands between them.
 fn read_long(
@@ -49,17 +49,6 @@ fn is_cycle(places: &Places<'_>, cycle: &[EventId]) -> bool
         };
     }
     cycle.len() > 0
-}
-
-/// Adds the text of a cycle of forced pairs of the recording with these places, without labels.
-fn put_cycle(out: &mut Vec<u8>, places: &Places<'_>, cycle: &[EventId]) -> Result<(), OutOfMemory>
-    requires { IsCycle (Forced places.now) cycle.now }
-    ensures { OnOk result ((text : List ℕ) × ArePairs places.now cycle.now text
-        × (out.new.items ≡ out.old.items ++ text)) }
-{
-    put_text_and_number(out, b"cycle of ", cycle.len())?;
-    out.push(b'\n')?;
-    put_pairs(out, places, cycle)
 }
 
 /// Adds the text of an answer to a recording if it holds, and says whether it does.
