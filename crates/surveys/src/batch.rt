@@ -22,7 +22,7 @@ struct Judged {
 #[derive(Drop)]
 pub(crate) struct Batch {
     bytes: Vec<u8>,
-    first: usize,
+    first: Option<usize>,
     recordings: usize,
     judged: Option<Judged>,
 }
@@ -39,8 +39,9 @@ impl Model for Batch {
 }
 
 impl Batch {
-    /// Lines that are not judged, with this many recordings, the first of which has this number.
-    pub(crate) fn new(bytes: Vec<u8>, first: usize, recordings: usize) -> Batch
+    /// Lines that are not judged, with this many recordings, the first of which has this number, or of which no gate
+    /// hears.
+    pub(crate) fn new(bytes: Vec<u8>, first: Option<usize>, recordings: usize) -> Batch
         ensures { result ≡ bytes.items }
     {
         Batch {
@@ -63,11 +64,15 @@ impl Batch {
         self.recordings
     }
 
-    /// Judges the lines by this worker, of which the gate hears, unless memory runs out.
+    /// Judges the lines by this worker, of which the gate hears if they have numbers, unless memory runs out.
     pub(crate) fn judge<G: Gate>(&mut self, alloc: Global, kind: LineKind, gate: &G, worker: usize)
         ensures { self.new ≡ self.old }
     {
-        let Ok(findings) = judge_lines(alloc, kind, &self.bytes, self.first, gate, worker) else {
+        let found = match self.first {
+            Some(first) => judge_lines(alloc, kind, &self.bytes, first, gate, worker),
+            None => judge_lines(alloc, kind, &self.bytes, 0, &OpenGate, worker),
+        };
+        let Ok(findings) = found else {
             return;
         };
         self.judged = Some(Judged { kind, findings });

@@ -3,7 +3,7 @@
 use crate::batch::Batch;
 use crate::filling::FillUntil;
 use crate::kind::LineKind;
-use crate::queue::{Turn, WorkQueue};
+use crate::queue::{Turn, WhenLate, WorkQueue};
 use crate::reports::Reports;
 use common::Gate;
 use std::alloc::Global;
@@ -28,6 +28,14 @@ pub(crate) fn room_of(reports: Reports) -> usize {
 pub(crate) fn batch_of(reports: Reports, workers: usize) -> usize {
     let batches = BATCHES_OF_WORKER.saturating_mul(workers.max(1));
     (room_of(reports) / batches.min(REPORTED_AT_ONCE)).max(1)
+}
+
+/// What is done where a worker is late with lines of this kind: what may take long, or much memory, is judged once.
+pub(crate) fn when_late(kind: LineKind) -> WhenLate {
+    match kind {
+        LineKind::Recording => WhenLate::OfferAgain,
+        LineKind::LongRecording | LineKind::Values(_) => WhenLate::Wait,
+    }
 }
 
 /// Until when a block is filled: what is reported does not wait for a read that may wait.
@@ -58,19 +66,29 @@ impl<R: Wait, G: Gate> Engine<'_, R, G> {
         self.queue.offer(self.rt, self.alloc, lines, self.batch)
     }
 
-    /// Judges a batch by this worker, and puts it back to where it lay.
-    fn judge(&self, at: usize, mut batch: Batch, worker: usize) {
+    /// Judges the batch with this number by this worker, and puts it back to where it lay.
+    fn judge(&self, number: usize, mut batch: Batch, worker: usize) {
         batch.judge(self.alloc, self.kind, self.gate, worker);
-        self.queue.put_back(self.rt, at, batch);
+        self.queue.put_back(self.rt, number, batch);
+    }
+
+    /// The first of these lines, of this many bytes and recordings, as a batch of which no gate hears; none where memory
+    /// runs out.
+    fn first_again(&self, lines: &[u8], length: usize, recordings: usize) -> Option<Batch> {
+        let mut bytes = Vec::new(self.alloc);
+        let Ok(()) = bytes.extend_from_slice(lines.get(..length)?) else {
+            return None;
+        };
+        Some(Batch::new(bytes, None, recordings))
     }
 
     /// Judges batches until the queue is closed, or 2^64 - 1 of them.
     pub(crate) fn work(&self, worker: usize) {
         for _ in 0..u64::MAX {
-            let Some((at, batch)) = self.queue.take(self.rt) else {
+            let Some((number, batch)) = self.queue.take(self.rt) else {
                 break;
             };
-            self.judge(at, batch, worker);
+            self.judge(number, batch, worker);
         }
     }
 
@@ -97,14 +115,18 @@ impl<R: Wait, G: Gate> Engine<'_, R, G> {
         batch
     }
 
-    /// The oldest batch, judged; none where no more than this many bytes lie on the queue, or after 2^64 - 1 turns. The
-    /// calling thread judges those that wait as worker 0 where it would have to wait itself.
-    pub(crate) fn collect(&self, kept: usize) -> Option<Batch> {
+    /// The oldest batch, with which these lines begin, judged; none where no more than this many bytes lie on the queue,
+    /// or after 2^64 - 1 turns. The calling thread judges those that wait as worker 0 where it would have to wait itself.
+    pub(crate) fn collect(&self, lines: &[u8], kept: usize) -> Option<Batch> {
         for _ in 0..u64::MAX {
             match self.queue.turn(self.rt, kept) {
                 Turn::Over => return None,
                 Turn::Collected(batch) => return Some(self.join_judged(batch)),
-                Turn::Judge(at, batch) => self.judge(at, batch, 0),
+                Turn::Judge(number, batch) => self.judge(number, batch, 0),
+                Turn::OfferAgain(length, recordings) => {
+                    let again = self.first_again(lines, length, recordings);
+                    self.queue.offer_again(self.rt, again);
+                }
             }
         }
         None

@@ -43,9 +43,10 @@ impl<R: Wait, G: Gate> Engine<'_, R, G> {
     {
         let mut from = 0;
         'batches: while from < bytes.len() {
-            let is_offered = self.offer(&bytes[from.min(end)..end]);
+            let lines = &bytes[from.min(end)..end];
+            let is_offered = self.offer(lines);
             // A batch that is counted leaves room for one that had none.
-            let Some(batch) = self.collect(if is_offered { kept } else { 0 }) else {
+            let Some(batch) = self.collect(lines, if is_offered { kept } else { 0 }) else {
                 break;
             };
             let length = self.count_first(sink, counted, &bytes[from..], batch)?;

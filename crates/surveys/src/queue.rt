@@ -25,6 +25,16 @@ const LOOKS: usize = 512;
 /// processors are shared with other machines, to wake it may take as long.
 const LOOKS_AT_WORK: usize = 16_384;
 
+/// What is done where a worker has the oldest batch while half of the batches here are judged, as where the worker's
+/// processor is at work for another machine.
+#[derive(Clone, Copy, Drop, PartialEq, Eq)]
+pub(crate) enum WhenLate {
+    /// Its lines are offered again, to workers that have nothing to do.
+    OfferAgain,
+    /// It is waited for.
+    Wait,
+}
+
 /// What lies at a slot.
 #[derive(Drop)]
 enum Slot {
@@ -32,18 +42,17 @@ enum Slot {
     Free,
     /// A batch that no worker has taken.
     Waiting(Batch),
-    /// Nothing, since a worker has taken the batch.
-    Taken,
-    /// A batch that its worker has put back.
+    /// Nothing, since a worker has taken the batch, with this many bytes and recordings.
+    Taken(usize, usize),
+    /// A batch that a worker has taken, and no other one again.
+    WaitingAgain(Batch),
+    /// Nothing, since all that was offered of the batch is taken.
+    TakenAgain,
+    /// A batch that a worker has put back.
     Judged(Batch),
 }
 
 impl Slot {
-    /// Whether a worker has its batch.
-    fn is_taken(&self) -> bool {
-        matches!(self, Slot::Taken)
-    }
-
     /// Whether it has a batch that no worker has taken.
     fn is_waiting(&self) -> bool {
         matches!(self, Slot::Waiting(_))
@@ -60,13 +69,36 @@ impl Slot {
 
     /// Takes a batch that waits.
     fn take(&mut self) -> Option<Batch> {
-        match replace(self, Slot::Taken) {
-            Slot::Waiting(batch) => Some(batch),
+        match replace(self, Slot::Free) {
+            Slot::Waiting(batch) => {
+                *self = Slot::Taken(batch.bytes().len(), batch.recordings());
+                Some(batch)
+            }
             other => {
                 *self = other;
                 None
             }
         }
+    }
+
+    /// Takes a batch that waits again.
+    fn take_again(&mut self) -> Option<Batch> {
+        match replace(self, Slot::TakenAgain) {
+            Slot::WaitingAgain(batch) => Some(batch),
+            other => {
+                *self = other;
+                None
+            }
+        }
+    }
+
+    /// Puts a judged batch here; false where it was put here before.
+    fn put_back(&mut self, batch: Batch) -> bool {
+        if matches!(self, Slot::Judged(_)) {
+            return false;
+        }
+        *self = Slot::Judged(batch);
+        true
     }
 
     /// Takes a judged batch away.
@@ -81,16 +113,18 @@ impl Slot {
     }
 }
 
-/// The slots of a queue, which are used in turn.
+/// The slots of a queue, which are used in turn: a batch lies at the slot of its number, modulo how many there are.
 #[derive(Drop)]
 struct Slots {
     slots: Vec<Slot>,
-    /// Where the next batch is put.
+    /// How many batches were put: the number of the next one.
     next_put: usize,
-    /// Where the next batch is taken.
+    /// The number of the batch that is taken next.
     next_taken: usize,
-    /// Where the oldest batch lies.
+    /// The number of the oldest batch that was not collected.
     oldest: usize,
+    /// How many of those that lie here are judged.
+    judged: usize,
     /// How many bytes the batches have that were put and not collected.
     bytes: usize,
     /// How many recordings were put.
@@ -99,33 +133,60 @@ struct Slots {
     collected: usize,
     /// How many recordings may lie here.
     room: usize,
+    when_late: WhenLate,
     is_closed: bool,
 }
 
 impl Slots {
-    /// The slot after this one.
-    fn after(&self, slot: usize) -> usize {
-        let next = slot.wrapping_add(1);
-        if next < self.slots.len() { next } else { 0 }
+    /// What lies at the slot of a batch.
+    fn at(&self, batch: usize) -> Option<&Slot> {
+        self.slots.get(batch % SLOTS)
     }
 
-    /// Whether a batch waits for a worker.
+    /// The slot of a batch.
+    fn at_mut(&mut self, batch: usize) -> Option<&mut Slot> {
+        self.slots.get_mut(batch % SLOTS)
+    }
+
+    /// Whether a batch waits for a worker that no worker has taken.
     fn has_waiting(&self) -> bool {
-        match self.slots.get(self.next_taken) {
+        match self.at(self.next_taken) {
             Some(slot) => slot.is_waiting(),
             None => false,
         }
     }
 
-    /// Whether more than this many bytes lie here, a worker has the oldest batch, and no other one waits.
+    /// Whether a batch waits for a worker, for the first time or again.
+    fn has_work(&self) -> bool {
+        self.has_waiting() || matches!(self.at(self.oldest), Some(Slot::WaitingAgain(_)))
+    }
+
+    /// How many bytes and recordings the oldest batch has, if a worker has it, half of those that lie here are judged,
+    /// and it is to be offered again.
+    fn late(&self) -> Option<(usize, usize)> {
+        let all = self.next_put.wrapping_sub(self.oldest);
+        match self.at(self.oldest) {
+            Some(Slot::Taken(length, recordings))
+                if self.when_late == WhenLate::OfferAgain
+                    && self.judged >= all.wrapping_sub(self.judged) => {
+                Some((*length, *recordings))
+            }
+            _ => None,
+        }
+    }
+
+    /// Whether workers have the oldest batch, and none has put it back.
+    fn is_oldest_taken(&self) -> bool {
+        matches!(
+            self.at(self.oldest),
+            Some(Slot::Taken(..) | Slot::WaitingAgain(_) | Slot::TakenAgain)
+        )
+    }
+
+    /// Whether more than this many bytes lie here, workers have the oldest batch, it is not to be offered again, and no
+    /// other one waits.
     fn is_behind(&self, kept: usize) -> bool {
-        if self.bytes <= kept || self.has_waiting() {
-            return false;
-        }
-        match self.slots.get(self.oldest) {
-            Some(slot) => slot.is_taken(),
-            None => false,
-        }
+        self.bytes > kept && !self.has_waiting() && self.is_oldest_taken() && self.late().is_none()
     }
 
     /// How many bytes lie here, and for how many recordings there is room.
@@ -136,36 +197,69 @@ impl Slots {
 
     /// Puts a batch with this many recordings; false where all slots are used.
     fn put(&mut self, bytes: Vec<u8>, recordings: usize) -> bool {
-        let at = self.next_put;
         let length = bytes.len();
-        let batch = Batch::new(bytes, self.recordings, recordings);
-        let is_put = match self.slots.get_mut(at) {
+        let batch = Batch::new(bytes, Some(self.recordings), recordings);
+        let is_put = match self.at_mut(self.next_put) {
             Some(slot) => slot.put(batch),
             None => false,
         };
         if is_put {
-            self.next_put = self.after(at);
+            self.next_put = self.next_put.wrapping_add(1);
             self.bytes = self.bytes.wrapping_add(length);
             self.recordings = self.recordings.wrapping_add(recordings);
         }
         is_put
     }
 
-    /// Takes the next batch that waits, and says where it lay; none after the end.
+    /// Takes the next batch that waits, with its number; none after the end.
     fn take(&mut self) -> Option<(usize, Batch)> {
         if self.is_closed {
             return None;
         }
-        let at = self.next_taken;
-        let batch = self.slots.get_mut(at)?.take()?;
-        self.next_taken = self.after(at);
-        Some((at, batch))
+        let number = self.next_taken;
+        let batch = self.at_mut(number)?.take()?;
+        self.next_taken = number.wrapping_add(1);
+        Some((number, batch))
     }
 
-    /// Puts a judged batch back to where it lay.
-    fn put_back(&mut self, at: usize, batch: Batch) {
-        if let Some(slot) = self.slots.get_mut(at) {
-            *slot = Slot::Judged(batch);
+    /// Takes the next batch that waits, for the first time or again, with its number; none after the end.
+    fn take_any(&mut self) -> Option<(usize, Batch)> {
+        if let Some(found) = self.take() {
+            return Some(found);
+        }
+        if self.is_closed {
+            return None;
+        }
+        let number = self.oldest;
+        let batch = self.at_mut(number)?.take_again()?;
+        Some((number, batch))
+    }
+
+    /// Offers the lines of the oldest batch again, if it is late; where there are none, for lack of memory, it is waited
+    /// for.
+    fn offer_again(&mut self, lines: Option<Batch>) {
+        if self.late().is_none() {
+            return;
+        }
+        if let Some(slot) = self.at_mut(self.oldest) {
+            *slot = match lines {
+                Some(batch) => Slot::WaitingAgain(batch),
+                None => Slot::TakenAgain,
+            };
+        }
+    }
+
+    /// Puts a judged batch with this number back to where it lay, unless it was put back before.
+    fn put_back(&mut self, number: usize, batch: Batch) {
+        if number.wrapping_sub(self.oldest) >= SLOTS {
+            return;
+        }
+        let is_put = match self.at_mut(number) {
+            Some(slot) => slot.put_back(batch),
+            None => false,
+        };
+        if is_put {
+            self.judged = self.judged.wrapping_add(1);
         }
     }
 
@@ -183,7 +277,7 @@ impl Slots {
 
     /// How many bytes the oldest batch has, if it is judged.
     fn judged_length(&self) -> Option<usize> {
-        match self.slots.get(self.oldest) {
+        match self.at(self.oldest) {
             Some(Slot::Judged(batch)) => Some(batch.bytes().len()),
             _ => None,
         }
@@ -191,9 +285,9 @@ impl Slots {
 
     /// Takes the oldest batch away if it is judged.
     fn collect(&mut self) -> Option<Batch> {
-        let at = self.oldest;
-        let batch = self.slots.get_mut(at)?.collect()?;
-        self.oldest = self.after(at);
+        let batch = self.at_mut(self.oldest)?.collect()?;
+        self.oldest = self.oldest.wrapping_add(1);
+        self.judged = self.judged.wrapping_sub(1);
         self.bytes = self.bytes.wrapping_sub(batch.bytes().len());
         self.collected = self.collected.wrapping_add(batch.recordings());
         Some(batch)
@@ -207,8 +301,11 @@ impl Slots {
         if let Some(batch) = self.collect() {
             return Turn::Collected(batch);
         }
-        match self.take() {
-            Some((at, batch)) => Turn::Judge(at, batch),
+        if let Some((number, batch)) = self.take() {
+            return Turn::Judge(number, batch);
+        }
+        match self.late() {
+            Some((length, recordings)) => Turn::OfferAgain(length, recordings),
             None => Turn::Over,
         }
     }
@@ -221,8 +318,10 @@ pub(crate) enum Turn {
     Over,
     /// It has the oldest batch.
     Collected(Batch),
-    /// It judges the batch that lay at this slot.
+    /// It judges the batch with this number.
     Judge(usize, Batch),
+    /// It offers the lines of the oldest batch again, which are this many bytes and recordings.
+    OfferAgain(usize, usize),
 }
 
 /// How many bytes the first lines have that make a batch of at most this many recordings, and how many of those lines
@@ -249,14 +348,18 @@ pub(crate) struct WorkQueue {
     slots: Mutex<Slots>,
     was_put: Condvar,
     was_judged: Condvar,
-    /// How often a batch was put or put back, the last one was collected, or the queue was closed.
+    /// How often a batch was put, offered again or put back, the last one was collected, or the queue was closed.
     changes: AtomicUsize,
 }
 
 impl WorkQueue {
     /// A queue with room for this many recordings and all its slots free, after which it needs no memory. Fails only if
     /// out of memory.
-    pub(crate) fn new(alloc: Global, room: usize) -> Result<WorkQueue, OutOfMemory> {
+    pub(crate) fn new(
+        alloc: Global,
+        room: usize,
+        when_late: WhenLate,
+    ) -> Result<WorkQueue, OutOfMemory> {
         let mut slots = Vec::with_capacity(alloc, SLOTS)?;
         for _ in 0..SLOTS {
             slots.push(Slot::Free)?;
@@ -267,10 +370,12 @@ impl WorkQueue {
                 next_put: 0,
                 next_taken: 0,
                 oldest: 0,
+                judged: 0,
                 bytes: 0,
                 recordings: 0,
                 collected: 0,
                 room,
+                when_late,
                 is_closed: false,
             }),
             was_put: Condvar::new(),
@@ -320,6 +425,14 @@ impl WorkQueue {
         batch
     }
 
+    /// Offers the lines of the oldest batch again, if it is late; where there are none, for lack of memory, it is waited
+    /// for.
+    pub(crate) fn offer_again<R: Wait>(&self, rt: &R, lines: Option<Batch>) {
+        self.slots.lock(rt).offer_again(lines);
+        self.changes.fetch_add(1, Ordering::SeqCst);
+        self.was_put.notify_one();
+    }
+
     /// Has threads that look see that nothing lies here, if nothing does.
     fn tell_if_empty(&self, slots: &Slots) {
         if slots.bytes == 0 {
@@ -327,9 +440,9 @@ impl WorkQueue {
         }
     }
 
-    /// Puts a judged batch back to where it lay.
-    pub(crate) fn put_back<R: Wait>(&self, rt: &R, at: usize, batch: Batch) {
-        self.slots.lock(rt).put_back(at, batch);
+    /// Puts a judged batch with this number back to where it lay, unless it was put back before.
+    pub(crate) fn put_back<R: Wait>(&self, rt: &R, number: usize, batch: Batch) {
+        self.slots.lock(rt).put_back(number, batch);
         self.changes.fetch_add(1, Ordering::SeqCst);
         self.was_judged.notify_one();
     }
@@ -343,7 +456,7 @@ impl WorkQueue {
             if changes != seen {
                 seen = changes;
                 let mut held = self.slots.lock(rt);
-                if let Some(found) = held.take() {
+                if let Some(found) = held.take_any() {
                     return Some(found);
                 }
                 left = held.looks();
@@ -357,16 +470,16 @@ impl WorkQueue {
         None
     }
 
-    /// The next batch that waits, and where it lay; none where the queue is closed.
+    /// The next batch that waits, with its number; none where the queue is closed.
     pub(crate) fn take<R: Wait>(&self, rt: &R) -> Option<(usize, Batch)> {
         if let Some(found) = self.take_soon(rt) {
             return Some(found);
         }
         let held = self.slots.lock(rt);
         let mut held = self.was_put.wait_while(rt, held, |slots| {
-            !slots.is_closed && !slots.has_waiting()
+            !slots.is_closed && !slots.has_work()
         });
-        held.take()
+        held.take_any()
     }
 
     /// What the thread that collects does next, if it need not wait by the time that all looks are over.
@@ -388,7 +501,7 @@ impl WorkQueue {
         None
     }
 
-    /// What the thread that collects does next. It waits only for a batch that a worker has.
+    /// What the thread that collects does next. It waits only for a batch that workers have.
     pub(crate) fn turn<R: Wait>(&self, rt: &R, kept: usize) -> Turn {
         if let Some(turn) = self.turn_soon(rt, kept) {
             return turn;

@@ -13,7 +13,7 @@ ghost use Rattle.surveys.specs.Surveys.{is_write_failure};
 
 use crate::batch::Batch;
 use crate::counting::Counted;
-use crate::engine::{Engine, batch_of, fill_until, room_of};
+use crate::engine::{Engine, batch_of, fill_until, room_of, when_late};
 use crate::error::SurveyError;
 use crate::filling::{BLOCK, CHUNK, fill};
 use crate::kind::LineKind;
@@ -64,7 +64,7 @@ fn count_blocks<T: Wait, R: Source, W: Sink, G: Gate>(
     }
     engine.count_offered(sink, counted, block, seen, 0)?;
     let rest = mem::replace(block, Vec::new(engine.alloc));
-    let mut last = Batch::new(rest, counted.ledger.ledger.total, 1);
+    let mut last = Batch::new(rest, Some(counted.ledger.ledger.total), 1);
     last.judge(engine.alloc, engine.kind, engine.gate, 0);
     engine.count_batch(sink, counted, last)?;
     Ok(())
@@ -156,7 +156,7 @@ pub fn survey<T: Threads + Wait + Sync, R: Source, W: Sink, G: Gate>(
     let Ok(mut chunk) = Vec::from_elem(alloc, 0u8, CHUNK) else {
         return Err(SurveyError::OutOfMemory);
     };
-    let queue = WorkQueue::new(alloc, room_of(reports))?;
+    let queue = WorkQueue::new(alloc, room_of(reports), when_late(kind))?;
     let engine = Engine {
         rt,
         alloc,

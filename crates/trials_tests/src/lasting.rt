@@ -11,6 +11,7 @@ use std::alloc::{AllocError, Global};
 use std::sync::Wait;
 use std::sync::atomic::{AtomicBool, AtomicU64, Ordering};
 use std::test::Fail;
+use std::thread;
 use std::thread::Threads;
 use std::time::{Duration, Instant};
 use surveys::{LineKind, Reports, survey};
@@ -156,23 +157,20 @@ impl Gate for Awaited<'_> {
     fn done(&self, _worker: usize, _piece: usize) {}
 }
 
-/// Whether this many workers write the lines of a survey at least every 64 recordings.
-fn is_prompt<R: Threads + Wait + Sync>(
+/// Surveys many lines by this many workers, and reports each, to a sink that counts those flushed; whether it can.
+fn is_reported<R: Threads + Wait + Sync, G: Gate>(
     rt: &R,
     alloc: Global,
     workers: usize,
+    flushed: &AtomicU64,
+    gate: &G,
 ) -> Result<bool, AllocError> {
     let lines = many_lines(alloc)?;
-    let flushed = AtomicU64::new(0);
-    let gate = Awaited {
-        flushed: &flushed,
-        late: AtomicBool::new(false),
-    };
     let mut source = MemorySource::new(lines.as_bytes());
     let mut sink = Flushed {
         inner: MemorySink::new(alloc),
         lines: 0,
-        flushed: &flushed,
+        flushed,
     };
     let surveyed = survey(
         rt,
@@ -182,14 +180,97 @@ fn is_prompt<R: Threads + Wait + Sync>(
         &mut sink,
         Reports::EachLine,
         workers,
-        &gate,
+        gate,
     );
-    Ok(surveyed.is_ok() && !gate.late.load(Ordering::SeqCst))
+    Ok(surveyed.is_ok())
+}
+
+/// Whether this many workers write the lines of a survey at least every 64 recordings.
+fn is_prompt<R: Threads + Wait + Sync>(
+    rt: &R,
+    alloc: Global,
+    workers: usize,
+) -> Result<bool, AllocError> {
+    let flushed = AtomicU64::new(0);
+    let gate = Awaited {
+        flushed: &flushed,
+        late: AtomicBool::new(false),
+    };
+    let is_reported = is_reported(rt, alloc, workers, &flushed, &gate)?;
+    Ok(is_reported && !gate.late.load(Ordering::SeqCst))
 }
 
 #[test]
 fn lines_of_recordings_are_written_at_least_every_64(rt: HostRuntime) -> Result<(), Fail> {
     assert!(rt; is_prompt(&rt, rt.alloc(), 1)?);
     assert!(rt; is_prompt(&rt, rt.alloc(), 3)?);
+    Ok(())
+}
+
+/// Keeps worker 1 at its first recording until 256 lines are flushed, and the others until it is there.
+struct Keeping<'a> {
+    flushed: &'a AtomicU64,
+    is_kept: AtomicBool,
+    missed: AtomicBool,
+}
+
+impl Drop for Keeping<'_> {
+    fn drop(self) {
+        let Self {
+            flushed,
+            is_kept,
+            missed,
+        } = self;
+    }
+}
+
+impl Keeping<'_> {
+    /// Whether a worker need not wait any longer.
+    fn may_go(&self, worker: usize) -> bool {
+        if worker == 1 {
+            return self.flushed.load(Ordering::SeqCst) >= 256;
+        }
+        self.is_kept.load(Ordering::SeqCst)
+    }
+}
+
+impl Gate for Keeping<'_> {
+    fn begin(&self, worker: usize, _piece: usize) {
+        if worker == 1 {
+            self.is_kept.store(true, Ordering::SeqCst);
+        }
+        for _ in 0..10_000_000 {
+            if self.may_go(worker) || self.missed.load(Ordering::SeqCst) {
+                return;
+            }
+            thread::yield_now();
+        }
+        self.missed.store(true, Ordering::SeqCst);
+    }
+
+    fn done(&self, _worker: usize, _piece: usize) {}
+}
+
+/// Whether this many workers write the lines of a survey while one of them is kept.
+fn is_not_kept<R: Threads + Wait + Sync>(
+    rt: &R,
+    alloc: Global,
+    workers: usize,
+) -> Result<bool, AllocError> {
+    let flushed = AtomicU64::new(0);
+    let gate = Keeping {
+        flushed: &flushed,
+        is_kept: AtomicBool::new(false),
+        missed: AtomicBool::new(false),
+    };
+    let is_reported = is_reported(rt, alloc, workers, &flushed, &gate)?;
+    Ok(is_reported && !gate.missed.load(Ordering::SeqCst))
+}
+
+// As where a thread's processor is at work for another machine.
+#[test]
+fn lines_are_written_while_a_worker_is_kept(rt: HostRuntime) -> Result<(), Fail> {
+    assert!(rt; is_not_kept(&rt, rt.alloc(), 3)?);
+    assert!(rt; is_not_kept(&rt, rt.alloc(), 8)?);
     Ok(())
 }
