@@ -24,8 +24,8 @@ pub fn long_outcome(answer: &LongAnswer) -> Outcome
     }
 }
 
-/// Adds the length of a cycle of forced pairs of the recording with these places, and a line for each of its pairs, with
-/// its first reason. Fails only if out of memory.
+/// Adds the length of a cycle of forced pairs of the recording with these places, and a line for each of its pairs,
+/// with its first reason. Fails only if out of memory.
 pub fn put_cycle(
     out: &mut Vec<u8>,
     places: &Places<'_>,

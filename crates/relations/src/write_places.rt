@@ -94,7 +94,8 @@ impl<'a> WritePlaces<'a> {
         self.places.as_slice()
     }
 
-    /// Where a write stands in the write list of its address, from 0 on. Of an event that does not write it says nothing.
+    /// Where a write stands in the write list of its address, from 0 on. Of an event that does not write it says
+    /// nothing.
     pub fn place(&self, number: EventId) -> u32
         requires { number < event_count self.now }
         ensures { (a : ℕ) → Writes self.now number a → result ≡ place (write_list self.now a) number }

@@ -72,8 +72,8 @@ impl<R: Wait, G: Gate> Engine<'_, R, G> {
         self.queue.put_back(self.rt, number, batch);
     }
 
-    /// The first of these lines, of this many bytes and recordings, as a batch of which no gate hears; none where memory
-    /// runs out.
+    /// The first of these lines, of this many bytes and recordings, as a batch of which no gate hears; none where
+    /// memory runs out.
     fn first_again(&self, lines: &[u8], length: usize, recordings: usize) -> Option<Batch> {
         let mut bytes = Vec::new(self.alloc);
         let Ok(()) = bytes.extend_from_slice(lines.get(..length)?) else {
@@ -115,8 +115,9 @@ impl<R: Wait, G: Gate> Engine<'_, R, G> {
         batch
     }
 
-    /// The oldest batch, with which these lines begin, judged; none where no more than this many bytes lie on the queue,
-    /// or after 2^64 - 1 turns. The calling thread judges those that wait as worker 0 where it would have to wait itself.
+    /// The oldest batch, with which these lines begin, judged; none where no more than this many bytes lie on the
+    /// queue, or after 2^64 - 1 turns. The calling thread judges those that wait as worker 0 where it would have to
+    /// wait itself.
     pub(crate) fn collect(&self, lines: &[u8], kept: usize) -> Option<Batch> {
         for _ in 0..u64::MAX {
             match self.queue.turn(self.rt, kept) {

@@ -235,8 +235,8 @@ impl Slots {
         Some((number, batch))
     }
 
-    /// Offers the lines of the oldest batch again, if it is late; where there are none, for lack of memory, it is waited
-    /// for.
+    /// Offers the lines of the oldest batch again, if it is late; where there are none, for lack of memory, it is
+    /// waited for.
     fn offer_again(&mut self, lines: Option<Batch>) {
         if self.late().is_none() {
             return;
@@ -425,8 +425,8 @@ impl WorkQueue {
         batch
     }
 
-    /// Offers the lines of the oldest batch again, if it is late; where there are none, for lack of memory, it is waited
-    /// for.
+    /// Offers the lines of the oldest batch again, if it is late; where there are none, for lack of memory, it is
+    /// waited for.
     pub(crate) fn offer_again<R: Wait>(&self, rt: &R, lines: Option<Batch>) {
         self.slots.lock(rt).offer_again(lines);
         self.changes.fetch_add(1, Ordering::SeqCst);

@@ -117,12 +117,13 @@ fn count_by_workers<T: Threads + Wait + Sync, R: Source, W: Sink, G: Gate>(
 /// Reads the lines of a source to its end, a recording each, judges them by this many workers, at most `MAX_WORKERS`,
 /// and counts them in order. Where each line is reported, what is found in it is written to the sink; else nothing is
 /// written. The calling thread is a worker, and reads. Each other worker has a thread of its own where one can be made,
-/// for as long as the survey lasts. The gate hears that a worker begins a recording, that it is a violation, and that
-/// the worker is done, by the numbers of the recordings, from 0. Fails by `ReadFailed` exactly where a read failed, by
-/// `WriteFailed` where a write did, and by `TooLong` only where 2^64 bytes or more were read. The memory is that of two
-/// blocks, or of the longest line, whatever the length. Where lines are recordings within the small limits, one thing
-/// is found in a line, however often and by however many workers it is judged, so any two surveys of the same bytes
-/// count and report the same.
+/// for as long as the survey lasts. Short recordings that a worker keeps while others are judged may be judged by
+/// another one, too. The gate hears that a worker begins a recording, that it is a violation, and that the worker is
+/// done, by the numbers of the recordings, from 0; of what is judged again it does not hear. Fails by `ReadFailed`
+/// exactly where a read failed, by `WriteFailed` where a write did, and by `TooLong` only where 2^64 bytes or more were
+/// read. The memory is that of two blocks, or of the longest line, whatever the length. Where lines are recordings
+/// within the small limits, one thing is found in a line, however often and by however many workers it is judged, so
+/// any two surveys of the same bytes count and report the same.
 pub fn survey<T: Threads + Wait + Sync, R: Source, W: Sink, G: Gate>(
     rt: &T,
     alloc: Global,
