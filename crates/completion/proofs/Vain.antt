@@ -339,7 +339,7 @@ popped old before after t n is size left =
 
 module _ (v : Values) (seen : Seen) (n a : ℕ) (cores : n ≡ length v.cores) (addresses : a ≡ length v.initial)
     (is : seen.rows ≡ record { cores = n; addresses = a; notes = a; keys = [] }) (dead : seen.dead.items ≡ []) where
-  no_keys : seen.rows.keys ≡ []
+  pub no_keys : seen.rows.keys ≡ []
   no_keys = ap (λ (z : SeenRows). z.keys) is
 
   pub none_searched : AreSearched v seen

@@ -101,6 +101,31 @@ fn links_from(
     Ok(way)
 }
 
+/// Goes back from an event along links until a step begins at the event, and gives its number; none where no way of at
+/// most `most` links does.
+fn walk_back(
+    walk: &mut Walk,
+    links: &[Link],
+    places: &[Vec<usize>],
+    event: usize,
+    most: usize,
+) -> Result<Option<usize>, OutOfMemory> {
+    reach(walk, links, places, event, 0)?;
+    for number in 0..places.len() {
+        if number >= walk.steps.len() || walk.steps[number].link >= links.len() {
+            return Ok(None);
+        }
+        let first = links[walk.steps[number].link].first;
+        if first == event {
+            return Ok(Some(number));
+        }
+        if walk.steps[number].length < most {
+            reach(walk, links, places, first, number + 1)?;
+        }
+    }
+    Ok(None)
+}
+
 /// Fewest links that lead from an event back to it, and no more than `most`; none where there are none. The places are
 /// those of `places_by_second`.
 pub(crate) fn way_back(
@@ -119,18 +144,8 @@ pub(crate) fn way_back(
         steps: Vec::new(alloc),
         reached: vec![in alloc; false; places.len()]?,
     };
-    reach(&mut walk, links, places, event, 0)?;
-    for number in 0..places.len() {
-        if number >= walk.steps.len() || walk.steps[number].link >= links.len() {
-            return Ok(Vec::new(alloc));
-        }
-        let first = links[walk.steps[number].link].first;
-        if first == event {
-            return links_from(alloc, links, &walk.steps, number);
-        }
-        if walk.steps[number].length < most {
-            reach(&mut walk, links, places, first, number + 1)?;
-        }
+    match walk_back(&mut walk, links, places, event, most)? {
+        Some(number) => links_from(alloc, links, &walk.steps, number),
+        None => Ok(Vec::new(alloc)),
     }
-    Ok(Vec::new(alloc))
 }

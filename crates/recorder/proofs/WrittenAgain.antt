@@ -47,7 +47,7 @@ record ItemsReread (k : ℕ) (ds : Items) : Type 0 where
   pub no_float : items_have_float ds ≡ false
 
 -- a number
-number_rereads : (n : ℕ) → n < 2 ^ 64 → Rereads 0 (number_data n)
+pub number_rereads : (n : ℕ) → n < 2 ^ 64 → Rereads 0 (number_data n)
 number_rereads n h = record {
   same = rw (number_of-decimal n h) refl;
   numbers = IsNumber-decimal n h;
@@ -56,7 +56,7 @@ number_rereads n h = record {
 }
 
 -- a source
-source_rereads : (s : Option ℕ) → IsWordSource s → Rereads 0 (source_data s)
+pub source_rereads : (s : Option ℕ) → IsWordSource s → Rereads 0 (source_data s)
 source_rereads None h = record { same = refl; numbers = tt; shallow = omega arith; no_float = refl }
 source_rereads (Some s) h = number_rereads s (omega (arith, h))
 
@@ -75,7 +75,7 @@ items_reread f Fits k each (x ∷ xs) all =
     }
 
 -- a list
-list_rereads : {A : Type 0} (f : A → Data) (Fits : A → Type 0) (k : ℕ) → ((x : A) → Fits x → Rereads k (f x))
+pub list_rereads : {A : Type 0} (f : A → Data) (Fits : A → Type 0) (k : ℕ) → ((x : A) → Fits x → Rereads k (f x))
     → (xs : List A) → AllByRecursion Fits xs → Rereads (k + 1) (list_data f xs)
 list_rereads f Fits k each xs all =
     let items = items_reread f Fits k each xs all in
@@ -190,7 +190,7 @@ read_bytes bytes rest d h is ends =
 -- ---- the value has the contents
 
 -- all items of a list
-fitting_again : {A : Type 0} (f : Data → Option A) (g : A → Data) (Fits : A → Type 0)
+pub fitting_again : {A : Type 0} (f : Data → Option A) (g : A → Data) (Fits : A → Type 0)
     → ((x : A) → Fits x → f (g x) ≡ Some x) → (xs : List A) → AllByRecursion Fits xs
     → list_in f (list_data g xs) ≡ Some xs
 fitting_again f g Fits each [] all = refl
@@ -209,7 +209,7 @@ lists_again = fitting_again (list_in natural) (list_data number_data) (AllByRecu
     (fitting_again natural number_data IsWord (λ n h. number_again n))
 
 -- and the initial values
-init_again : (values : List ℕ) → AllByRecursion IsWord values
+pub init_again : (values : List ℕ) → AllByRecursion IsWord values
     → list_in value_in (list_data number_data values) ≡ Some values
 init_again = fitting_again value_in number_data IsWord value_again
 

@@ -1,15 +1,15 @@
-//! The items of a recording's lists, and what single JSON values give.
+//! The items of a recording's lists.
 
-ghost use Rattle.std.specs.Prelude.{◌≡◌, option_map, option_and_then, codes};
+ghost use Rattle.std.specs.Prelude.{◌≡◌, option_and_then, codes};
 ghost use Rattle.serde_json.specs.View.{view};
-ghost use Rattle.recorder.specs.Reading.{at_key, count_members};
+ghost use Rattle.recorder.specs.Reading.{at_key};
 ghost use Rattle.recorder.specs.Clipped.{clipped_event};
-ghost use Rattle.recorder.specs.ByTokens.{clipped_source};
 ghost use Rattle.recorder.specs.ReadMembers.{single};
-ghost use Rattle.serde_json.specs.Find.{as_object, as_str};
+ghost use Rattle.serde_json.specs.Find.{as_str};
 
 use crate::plain::events::{Fields, take_event};
 use crate::plain::values::{take_number, take_value};
+use crate::single::{keys_of, number_at, number_in, source_at, value_at, value_in};
 use crate::values::event_members;
 use crate::versions::has_failed;
 use common::EventId;
@@ -214,8 +214,7 @@ impl Kind for Numbers {
     }
 
     fn read(value: &Value) -> Option<EventId> {
-        let n = value.as_u64()?;
-        Some(u32::try_from(n).unwrap_or(u32::MAX))
+        number_in(value)
     }
 
     fn value(item: &EventId, _alloc: Global) -> Result<Value, AllocError> {
@@ -268,7 +267,7 @@ impl Kind for Values {
     }
 
     fn read(value: &Value) -> Option<u32> {
-        u32::try_from(value.as_u64()?).ok()
+        value_in(value)
     }
 
     fn value(item: &u32, _alloc: Global) -> Result<Value, AllocError> {
@@ -278,36 +277,6 @@ impl Kind for Values {
     ghost holds_none = { λ size. refl };
 
     ghost holds_no_list = { λ size. refl };
-}
-
-fn source_in(value: &Value) -> Option<Option<EventId>>
-    ensures { result ≡ clipped_source (view value.now) }
-{
-    if value.is_null() {
-        return Some(None);
-    }
-    let source = Numbers::read(value)?;
-    Some(Some(source))
-}
-
-fn read_at<K: Kind>(value: &Value, key: &str) -> Option<K::Item>
-    ensures { result ≡ at_key K.held key.now (view value.now) }
-{
-    K::read(value.get(key)?)
-}
-
-fn source_at(value: &Value, key: &str) -> Option<Option<EventId>>
-    ensures { result ≡ at_key clipped_source key.now (view value.now) }
-{
-    source_in(value.get(key)?)
-}
-
-#[tactic(auto, using(crate::proofs::Members::count_members_length))]
-pub(crate) fn keys_of(value: &Value) -> Option<usize>
-    ensures { result ≡ option_map count_members (as_object (view value.now)) }
-{
-    let members = value.as_object()?;
-    Some(members.len())
 }
 
 /// The byte of a text of one byte.
@@ -334,10 +303,10 @@ fn event_in(value: &Value) -> Option<Event>
     let keys = keys_of(value)?;
     let fields = Fields {
         k: letter_in(value),
-        a: read_at::<Numbers>(value, "a"),
-        r: read_at::<Values>(value, "r"),
+        a: number_at(value, "a"),
+        r: value_at(value, "r"),
         s: source_at(value, "s"),
-        w: read_at::<Values>(value, "w"),
+        w: value_at(value, "w"),
     };
     fields.event(keys)
 }

@@ -11,8 +11,9 @@ ghost use Rattle.recorder.specs.Reading.{IsValuesAlone};
 ghost use Rattle.recorder.specs.Text.{IsReadAs};
 ghost use Rattle.recorder.specs.Clipped.{clipped_shape};
 
-use crate::items::{Events, Kind, Numbers, Values, keys_of};
+use crate::items::{Events, Kind, Numbers, Values};
 use crate::plain::{ReadMembers, read_plain};
+use crate::single::keys_of;
 use crate::versions::has_failed_cas;
 use common::EventId;
 use recording::{Event, RecError, Recording, RecordingSize};

@@ -2,54 +2,18 @@
 
 ghost use Rattle.std.specs.Prelude.{◌≡◌, IfOk, None, Some, map};
 ghost use Rattle.std.specs.List.{AllByRecursion};
-ghost use Rattle.serde_json.specs.Data.{put, string, object};
+ghost use Rattle.serde_json.specs.Data.{object};
 ghost use Rattle.serde_json.specs.View.{view, members_view};
 ghost use Rattle.recorder.specs.Written.{IsWordSource, IsFitting, AreFitting};
-ghost use Rattle.recorder.specs.Text.{list_data, source_data, members, read_members, event_data, values_of, data_of};
+ghost use Rattle.recorder.specs.Text.{list_data, members, read_members, event_data, values_of, data_of};
 
 use crate::items::{Events, Kind, Numbers, Values};
+use crate::object::{source_value, with_member, with_text};
 use crate::versions::is_of_version_1;
 use common::{Addr, EventId};
 use recording::{Event, Recording};
-use serde_json::{Map, Value, put};
+use serde_json::{Map, Value};
 use std::alloc::{AllocError, Global};
-
-/// The members with one more.
-fn with(
-    alloc: Global,
-    members: Map<String, Value>,
-    key: &str,
-    value: Value,
-) -> Result<Map<String, Value>, AllocError>
-    ensures { IfOk result (λ m. members_view m.entries ≡ put key.now (view value) (members_view members.entries)) }
-{
-    let mut members = members;
-    put(&mut members, alloc, key, value)?;
-    Ok(members)
-}
-
-/// The members with a text.
-fn with_text(
-    alloc: Global,
-    members: Map<String, Value>,
-    key: &str,
-    text: &str,
-) -> Result<Map<String, Value>, AllocError>
-    ensures { IfOk result (λ m. members_view m.entries ≡ put key.now (string text.now) (members_view members.entries)) }
-{
-    let text = String::from_str(alloc, text)?;
-    with(alloc, members, key, Value::String(text))
-}
-
-fn source_value(source: Option<EventId>) -> Value
-    ensures value { view result ≡ source_data source }
-    ensures fits { IsWordSource source }
-{
-    match source {
-        Some(write) => Value::from(write),
-        None => Value::Null,
-    }
-}
 
 /// The members of an event of this kind that reads.
 fn read_members(
@@ -62,10 +26,10 @@ fn read_members(
     ensures value { IfOk result (λ m. members_view m.entries ≡ members (read_members kind.now a r s)) }
     ensures fits { IfOk result (λ _. IsWordSource s) }
 {
-    let members = with(alloc, Map::new(alloc), "a", Value::from(a))?;
+    let members = with_member(alloc, Map::new(alloc), "a", Value::from(a))?;
     let members = with_text(alloc, members, "k", kind)?;
-    let members = with(alloc, members, "r", Value::from(r))?;
-    with(alloc, members, "s", source_value(s))
+    let members = with_member(alloc, members, "r", Value::from(r))?;
+    with_member(alloc, members, "s", source_value(s))
 }
 
 /// The members of an event.
@@ -76,13 +40,13 @@ pub(crate) fn event_members(alloc: Global, event: &Event) -> Result<Map<String, 
     match *event {
         Event::L { a, r, s } => read_members(alloc, "L", a, r, s),
         Event::S { a, w } => {
-            let members = with(alloc, Map::new(alloc), "a", Value::from(a))?;
+            let members = with_member(alloc, Map::new(alloc), "a", Value::from(a))?;
             let members = with_text(alloc, members, "k", "S")?;
-            with(alloc, members, "w", Value::from(w))
+            with_member(alloc, members, "w", Value::from(w))
         }
         Event::R { a, r, s, w } => {
             let members = read_members(alloc, "R", a, r, s)?;
-            with(alloc, members, "w", Value::from(w))
+            with_member(alloc, members, "w", Value::from(w))
         }
         Event::C { a, r, s } => read_members(alloc, "C", a, r, s),
         Event::F => with_text(alloc, Map::new(alloc), "k", "F"),
@@ -118,15 +82,15 @@ pub(crate) fn value_of(alloc: Global, recording: &Recording) -> Result<Value, Al
         recording.now.write_lists) }
 {
     let cores = lists_value::<Events>(alloc, recording.cores())?;
-    let members = with(alloc, Map::new(alloc), "cores", cores)?;
+    let members = with_member(alloc, Map::new(alloc), "cores", cores)?;
     let writes = lists_value::<Numbers>(alloc, recording.writes())?;
-    let members = with(alloc, members, "writes", writes)?;
+    let members = with_member(alloc, members, "writes", writes)?;
     if is_of_version_1(recording) {
-        let members = with(alloc, members, "version", Value::from(1u64))?;
+        let members = with_member(alloc, members, "version", Value::from(1u64))?;
         return Ok(Value::Object(members));
     }
     let init = list_value::<Values>(alloc, recording.init())?;
-    let members = with(alloc, members, "init", init)?;
-    let members = with(alloc, members, "version", Value::from(2u64))?;
+    let members = with_member(alloc, members, "init", init)?;
+    let members = with_member(alloc, members, "version", Value::from(2u64))?;
     Ok(Value::Object(members))
 }

@@ -1,4 +1,3 @@
-pub mod Counted
 pub mod KnownEvents
 pub mod ClippedShape
 pub mod Walks

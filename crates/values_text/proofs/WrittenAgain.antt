@@ -1,22 +1,15 @@
 -- What the text of values has is what is read of it.
-use Rattle.std.proofs.Common.{◌≡◌, ◌<◌, ◌≤◌, ◌^◌, ◌+◌, ℕ, List, [], ◌∷◌, ◌++◌, Option, Some, None, map, codes}
+use Rattle.std.proofs.Common.{◌≡◌, ◌^◌, ◌+◌, ℕ, List, [], ◌∷◌, ◌++◌, Option, Some, None, map, codes}
 use Rattle.std.proofs.Common.{false, refl, ap, ◌∙◌, arith}
 use Rattle.std.proofs.lemmas.Bool.{lt-ltb}
 use Rattle.std.specs.List.{AllByRecursion}
-use Rattle.json.specs.Tree as tree
-use Rattle.json.specs.Tree.{HasNumbers, ItemsHaveNumbers}
-use Rattle.json.proofs.Printed.Decimals.{IsNumber-decimal}
-use Rattle.serde_json.specs.Data.{Data, Items, object}
-use Rattle.serde_json.specs.Read.{of_items}
-use Rattle.serde_json.specs.View.{items_of}
-use Rattle.serde_json.specs.Written.{items_outline, compact_text, has_float, items_have_float}
-use Rattle.serde_json.proofs.Numbers.{number_of-decimal}
+use Rattle.serde_json.specs.Data.{Data, object}
+use Rattle.serde_json.specs.Written.{compact_text, has_float}
 use Rattle.recording.specs.declared.event.Event.TheVariants.{L, S, R, C, F}
-use Rattle.recorder.specs.Reading.{value_in, source_in, list_in}
+use Rattle.recorder.specs.Reading.{source_in, list_in}
 use Rattle.recorder.specs.Text.{number_data, list_data, source_data, members}
-use Rattle.recorder.specs.Written.{IsWord, IsWordSource}
-use Rattle.recorder.proofs.Again.{value_again}
-use Rattle.recorder.proofs.WrittenAgain.{Rereads}
+use Rattle.recorder.specs.Written.{IsWord}
+use Rattle.recorder.proofs.WrittenAgain.{Rereads, number_rereads, source_rereads, list_rereads, fitting_again, init_again}
 use Rattle.values.specs.Values.{Values}
 use Rattle.values_text.specs.Reading.{KnownEvent, known_event, known_event_in, final_in, values_contents, values_shape}
 use Rattle.values_text.specs.Text.{known_cores, known_members, known_data, final_data, contents_data_3, values_data}
@@ -25,57 +18,10 @@ use Rattle.values_text.specs.Text.{AreFittingNumbers}
 
 -- ---- the value is read of its text
 
--- items as JSON are read as the items, their numbers are numbers and no floats, and they nest at most so deep
-record ItemsReread (k : ℕ) (ds : Items) : Type 0 where
-  pub same : of_items (items_outline ds) ≡ Some ds
-  pub numbers : ItemsHaveNumbers (items_outline ds)
-  pub shallow : tree.items_depth (items_outline ds) ≤ k
-  pub no_float : items_have_float ds ≡ false
-
--- a number
-number_rereads : (n : ℕ) → n < 2 ^ 64 → Rereads 0 (number_data n)
-number_rereads n h = record {
-  same = rw (number_of-decimal n h) refl;
-  numbers = IsNumber-decimal n h;
-  shallow = omega arith;
-  no_float = refl;
-}
-
--- a source
-source_rereads : (s : Option ℕ) → IsWordSource s → Rereads 0 (source_data s)
-source_rereads None h = record { same = refl; numbers = tt; shallow = omega arith; no_float = refl }
-source_rereads (Some s) h = number_rereads s (omega (arith, h))
-
 -- a final value
 final_rereads : (o : Option ℕ) → IsFittingFinal o → Rereads 0 (final_data o)
 final_rereads None h = record { same = refl; numbers = tt; shallow = omega arith; no_float = refl }
 final_rereads (Some n) h = number_rereads n (omega (arith, h))
-
--- items
-items_reread : {A : Type 0} (f : A → Data) (Fits : A → Type 0) (k : ℕ) → ((x : A) → Fits x → Rereads k (f x))
-    → (xs : List A) → AllByRecursion Fits xs → ItemsReread k (items_of (map f xs))
-items_reread f Fits k each [] all = record { same = refl; numbers = tt; shallow = omega arith; no_float = refl }
-items_reread f Fits k each (x ∷ xs) all =
-    let one = each x all.0 in
-    let rest = items_reread f Fits k each xs all.1 in
-    record {
-      same = rw (one.same, rest.same) refl;
-      numbers = (one.numbers, rest.numbers);
-      shallow = omega (arith, one.shallow, rest.shallow);
-      no_float = rw one.no_float rest.no_float;
-    }
-
--- a list
-list_rereads : {A : Type 0} (f : A → Data) (Fits : A → Type 0) (k : ℕ) → ((x : A) → Fits x → Rereads k (f x))
-    → (xs : List A) → AllByRecursion Fits xs → Rereads (k + 1) (list_data f xs)
-list_rereads f Fits k each xs all =
-    let items = items_reread f Fits k each xs all in
-    record {
-      same = rw items.same refl;
-      numbers = items.numbers;
-      shallow = omega (arith, items.shallow);
-      no_float = items.no_float;
-    }
 
 -- an event that reads, of this kind
 reading_rereads : (kind : List ℕ) (a r : ℕ) (o : Option (Option ℕ)) → IsWord a → IsWord r → IsWordKnown o
@@ -236,28 +182,16 @@ list_again : {A : Type 0} (f : Data → Option A) (g : A → Data) (h : A → A)
 list_again f g h Fits each [] all = refl
 list_again f g h Fits each (x ∷ xs) all = rw (each x all.0, list_again f g h Fits each xs all.1) refl
 
--- or as they are
-list_same : {A : Type 0} (f : Data → Option A) (g : A → Data) (Fits : A → Type 0)
-    → ((x : A) → Fits x → f (g x) ≡ Some x) → (xs : List A) → AllByRecursion Fits xs
-    → list_in f (list_data g xs) ≡ Some xs
-list_same f g Fits each [] all = refl
-list_same f g Fits each (x ∷ xs) all = rw (each x all.0, list_same f g Fits each xs all.1) refl
-
 -- the events of each core
 cores_again : (cores : List (List KnownEvent)) → AllByRecursion (AllByRecursion IsFittingKnown) cores
     → list_in (list_in known_event_in) (list_data (list_data known_data) cores) ≡ Some (map (map resourced) cores)
 cores_again = list_again (list_in known_event_in) (list_data known_data) (map resourced) (AllByRecursion IsFittingKnown)
     (list_again known_event_in known_data resourced IsFittingKnown known_again)
 
--- the initial values
-init_again : (values : List ℕ) → AllByRecursion IsWord values
-    → list_in value_in (list_data number_data values) ≡ Some values
-init_again = list_same value_in number_data IsWord value_again
-
 -- the final values
 finals_again : (fs : List (Option ℕ)) → AllByRecursion IsFittingFinal fs
     → list_in final_in (list_data final_data fs) ≡ Some fs
-finals_again = list_same final_in final_data IsFittingFinal final_again
+finals_again = fitting_again final_in final_data IsFittingFinal final_again
 
 -- the contents
 pub shape_again : (cores : List (List KnownEvent)) (fs : Option (List (Option ℕ))) (values : List ℕ)

@@ -1,16 +1,13 @@
-//! The items of the lists of values, and what single JSON values give.
+//! The items of the lists of values.
 
-ghost use Rattle.std.specs.Prelude.{◌≡◌, option_map};
+ghost use Rattle.std.specs.Prelude.{◌≡◌};
 ghost use Rattle.serde_json.specs.View.{view};
-ghost use Rattle.serde_json.specs.Find.{as_object};
-ghost use Rattle.recorder.specs.Reading.{at_key, count_members, value_in};
-ghost use Rattle.recorder.specs.Clipped.{clipped_number};
-ghost use Rattle.recorder.specs.ByTokens.{clipped_source};
 ghost use Rattle.values_text.specs.Reading.{with_source, without_source};
 ghost use Rattle.values_text.specs.Clipped.{clipped_known};
 
 use crate::members::event_members;
 use common::{Addr, EventId};
+use recorder::{keys_of, number_at, source_at, value_at, value_in};
 use serde_json::Value;
 use std::alloc::{AllocError, Global};
 use values::Event;
@@ -75,7 +72,7 @@ impl Item for u32 {
     ghost fits = { IsWord };
 
     fn read(value: &Value) -> Option<u32> {
-        u32::try_from(value.as_u64()?).ok()
+        value_in(value)
     }
 
     fn value(&self, _alloc: Global) -> Result<Value, AllocError> {
@@ -107,50 +104,6 @@ impl Item for Option<u32> {
             None => Ok(Value::Null),
         }
     }
-}
-
-fn number_in(value: &Value) -> Option<u32>
-    ensures { result ≡ clipped_number (view value.now) }
-{
-    let n = value.as_u64()?;
-    Some(u32::try_from(n).unwrap_or(u32::MAX))
-}
-
-fn source_in(value: &Value) -> Option<Option<EventId>>
-    ensures { result ≡ clipped_source (view value.now) }
-{
-    if value.is_null() {
-        return Some(None);
-    }
-    let source = number_in(value)?;
-    Some(Some(source))
-}
-
-fn number_at(value: &Value, key: &str) -> Option<u32>
-    ensures { result ≡ at_key clipped_number key.now (view value.now) }
-{
-    number_in(value.get(key)?)
-}
-
-fn value_at(value: &Value, key: &str) -> Option<u32>
-    ensures { result ≡ at_key value_in key.now (view value.now) }
-{
-    u32::read(value.get(key)?)
-}
-
-fn source_at(value: &Value, key: &str) -> Option<Option<EventId>>
-    ensures { result ≡ at_key clipped_source key.now (view value.now) }
-{
-    source_in(value.get(key)?)
-}
-
-/// How many keys an object has.
-#[tactic(auto, using(crate::proofs::Counted::count_members_length))]
-pub(crate) fn keys_of(value: &Value) -> Option<usize>
-    ensures { result ≡ option_map count_members (as_object (view value.now)) }
-{
-    let members = value.as_object()?;
-    Some(members.len())
 }
 
 /// What the keys of an event give.

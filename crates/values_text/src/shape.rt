@@ -6,7 +6,8 @@ ghost use Rattle.recorder.specs.Reading.{each, natural, list_in, at_key};
 ghost use Rattle.values_text.specs.Clipped.{clipped_known, clipped_values_shape};
 ghost use Rattle.values_text.specs.Parsed.{parsed_values};
 
-use crate::items::{Item, KnownEvent, keys_of};
+use crate::items::{Item, KnownEvent};
+use recorder::keys_of;
 use serde_json::Value;
 use std::alloc::{AllocError, Global};
 

@@ -10,8 +10,8 @@ ghost use Rattle.values_text.specs.Text.{values_data, text_of_values, AreFitting
 
 use crate::items::Item;
 use crate::known::known_cores;
-use crate::members::with;
 use common::OutOfMemory;
+use recorder::with_member;
 use serde_json::{Map, Value};
 use std::alloc::{AllocError, Global};
 use values::Values;
@@ -58,15 +58,15 @@ fn value_of(alloc: Global, values: &Values) -> Result<Value, AllocError>
 {
     let known = known_cores(alloc, values.cores(), values.sources())?;
     let cores = lists_value(alloc, known.as_slice())?;
-    let members = with(alloc, Map::new(alloc), "cores", cores)?;
+    let members = with_member(alloc, Map::new(alloc), "cores", cores)?;
     let init = list_value(alloc, values.init())?;
-    let members = with(alloc, members, "init", init)?;
-    let members = with(alloc, members, "version", Value::from(3u64))?;
+    let members = with_member(alloc, members, "init", init)?;
+    let members = with_member(alloc, members, "version", Value::from(3u64))?;
     if !is_one_known(values.final_values()) {
         return Ok(Value::Object(members));
     }
     let final_values = list_value(alloc, values.final_values())?;
-    let members = with(alloc, members, "final", final_values)?;
+    let members = with_member(alloc, members, "final", final_values)?;
     Ok(Value::Object(members))
 }
 

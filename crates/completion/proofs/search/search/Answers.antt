@@ -1,10 +1,9 @@
 use Rattle.std.proofs.Common.{◌≡◌, ℕ, List, ap, true, false, arith, length, sym, subst}
-use Rattle.completion.specs.Reachable.{Leads, here}
+use Rattle.completion.specs.Reachable.{here}
 use Rattle.completion.specs.Search.{IsHopeless}
 use Rattle.completion.specs.Situation.{beginning, IsEnd}
 use Rattle.completion.proofs.DeadRows.{beginning_hopeless}
-use Rattle.completion.proofs.Shapes.{led_fits}
-use Rattle.completion.proofs.Vain.{added_searched, none_known, none_searched, one_too_many}
+use Rattle.completion.proofs.Vain.{no_keys, none_known, none_searched, one_too_many}
 use Rattle.completion.proofs.search.search.Goals as goal
 
 pub returns-then-is_hopeless : goal.returns-then-is_hopeless
@@ -27,30 +26,17 @@ returns-then-limit-eq0 c =
     (beginning v)) c.args.limit
     (let none : c.args.limit ≡ 0 = c.if-limit-eq0.true in omega (arith, none))
 
-pub add-requires-clause-fits : goal.add-requires-clause-fits
-add-requires-clause-fits c =
-    let v = c.args.values.now in
-    led_fits v c.requires.room c.in_ok-seen.seen c.in_ok-first.first
-    (none_searched v c.in_ok-seen.seen _ _ c.core_count.ensures
-    (ap (λ (l : List ℕ). length l) c.init.ensures) c.in_ok-seen.ensures.rows c.in_ok-seen.ensures.dead)
-    (subst (Leads v (beginning v)) (sym c.in_ok-first.ensures) here)
+pub search_from-requires-clause-before_end : goal.search_from-requires-clause-before_end
+search_from-requires-clause-before_end c = λ end.
+    let yes : c.is_end.result ≡ true = c.is_end.ensures.1 end in
+    let no : c.is_end.result ≡ false = c.if-is_end.false in absurd cc
 
-pub add-requires-clause-new : goal.add-requires-clause-new
-add-requires-clause-new c =
-    none_known c.args.values.now c.in_ok-seen.seen _ _ c.core_count.ensures
+pub search_from-requires-clause-searched : goal.search_from-requires-clause-searched
+search_from-requires-clause-searched c =
+    none_searched c.args.values.now c.in_ok-seen.seen _ _ c.core_count.ensures
     (ap (λ (l : List ℕ). length l) c.init.ensures) c.in_ok-seen.ensures.rows c.in_ok-seen.ensures.dead
-    c.in_ok-first.first
 
-pub try_all-requires-clause-searched : goal.try_all-requires-clause-searched
-try_all-requires-clause-searched c =
-    let v = c.args.values.now in
-    added_searched v c.in_ok-seen.seen c.in_ok-first.first
-    (none_searched v c.in_ok-seen.seen _ _ c.core_count.ensures
-    (ap (λ (l : List ℕ). length l) c.init.ensures) c.in_ok-seen.ensures.rows c.in_ok-seen.ensures.dead)
-    (subst (Leads v (beginning v)) (sym c.in_ok-first.ensures) here)
-    (none_known v c.in_ok-seen.seen _ _ c.core_count.ensures
+pub search_from-requires-clause-none : goal.search_from-requires-clause-none
+search_from-requires-clause-none c =
+    no_keys c.args.values.now c.in_ok-seen.seen _ _ c.core_count.ensures
     (ap (λ (l : List ℕ). length l) c.init.ensures) c.in_ok-seen.ensures.rows c.in_ok-seen.ensures.dead
-    c.in_ok-first.first) c.add.new.self
-    (λ end. let yes : c.is_end.result ≡ true = c.is_end.ensures.1 end in
-    let no : c.is_end.result ≡ false = c.if-is_end.false in absurd cc) c.in_ok-_first.ensures.rows
-    c.in_ok-_first.ensures.dead

@@ -8,11 +8,11 @@ pub returns : goal.returns
 returns c =
     let f : Fields = record {
       k = c.letter_in.result;
-      a = c.read_at.result;
-      r = c.read_at-2.result;
+      a = c.number_at.result;
+      r = c.value_at.result;
       s = c.source_at.result;
-      w = c.read_at-3.result;
+      w = c.value_at-2.result;
     } in
     c.event.ensures ∙ sym (event_given f c.in_ok-keys.keys (view c.args.value.now) (search rules)
-    (sym c.letter_in.ensures) (sym c.read_at.ensures) (sym c.read_at-2.ensures) (sym c.source_at.ensures)
-    (sym c.read_at-3.ensures))
+    (sym c.letter_in.ensures) (sym c.number_at.ensures) (sym c.value_at.ensures) (sym c.source_at.ensures)
+    (sym c.value_at-2.ensures))
