@@ -10,7 +10,7 @@ use common::EventId;
 use serde_json::{Map, Value, put};
 use std::alloc::{AllocError, Global};
 
-/// The members of an object with one more. Fails only if out of memory.
+/// The members of an object with one more, in place of one with the same key. Fails only if out of memory.
 pub fn with_member(
     alloc: Global,
     members: Map<String, Value>,
@@ -24,7 +24,8 @@ pub fn with_member(
     Ok(members)
 }
 
-/// The members of an object with one more, which is a text. Fails only if out of memory.
+/// The members of an object with one more, which is a text, in place of one with the same key. Fails only if out of
+/// memory.
 pub fn with_text(
     alloc: Global,
     members: Map<String, Value>,
