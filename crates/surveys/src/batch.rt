@@ -3,10 +3,11 @@
 ghost use Rattle.std.specs.Prelude.{◌≡◌, ◌++◌, IfOk, IfSome, IsTrue};
 ghost use Rattle.surveys.specs.Found.{AreLineFindings};
 
-use crate::coded::judge_lines;
+use crate::coded::judge_unheard;
 use crate::filling::last_end;
+use crate::judged::LineJudge;
 use crate::kind::LineKind;
-use common::{Gate, OpenGate, OutOfMemory};
+use common::{Gate, OutOfMemory};
 use ledger::Finding;
 use std::alloc::Global;
 use std::marker::Model;
@@ -16,6 +17,13 @@ use std::marker::Model;
 struct Judged {
     kind: LineKind,
     findings: Vec<Finding>,
+}
+
+/// How many bytes lines have, and how many recordings they are said to be.
+#[derive(Clone, Copy)]
+pub(crate) struct Extent {
+    pub(crate) bytes: usize,
+    pub(crate) recordings: usize,
 }
 
 /// Lines, and what is found in them where they are judged. Contracts see the bytes.
@@ -64,18 +72,29 @@ impl Batch {
         self.recordings
     }
 
-    /// Judges the lines by this worker, of which the gate hears if they have numbers, unless memory runs out.
-    pub(crate) fn judge<G: Gate>(&mut self, alloc: Global, kind: LineKind, gate: &G, worker: usize)
+    /// Its extent.
+    pub(crate) fn extent(&self) -> Extent {
+        Extent {
+            bytes: self.bytes.len(),
+            recordings: self.recordings,
+        }
+    }
+
+    /// Judges the lines, of which the gate hears if they have numbers, unless memory runs out.
+    pub(crate) fn judge<G: Gate>(&mut self, judge: &LineJudge<'_, G>)
         ensures { self.new ≡ self.old }
     {
         let found = match self.first {
-            Some(first) => judge_lines(alloc, kind, &self.bytes, first, gate, worker),
-            None => judge_lines(alloc, kind, &self.bytes, 0, &OpenGate, worker),
+            Some(first) => judge.judge_lines(&self.bytes, first),
+            None => judge_unheard(judge.alloc, judge.kind, &self.bytes),
         };
         let Ok(findings) = found else {
             return;
         };
-        self.judged = Some(Judged { kind, findings });
+        self.judged = Some(Judged {
+            kind: judge.kind,
+            findings,
+        });
     }
 
     /// Makes room for this many bytes more; false where memory runs out.
@@ -128,7 +147,7 @@ impl Batch {
         } = self;
         match judged {
             Some(Judged { kind: of, findings }) if is_same(of, kind) => Ok(findings),
-            _ => judge_lines(alloc, kind, &bytes, 0, &OpenGate, 0),
+            _ => judge_unheard(alloc, kind, &bytes),
         }
     }
 }

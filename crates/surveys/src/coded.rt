@@ -1,60 +1,77 @@
 //! What is found in many lines in memory, and its codes.
 
-ghost use Rattle.std.specs.Prelude.{◌≡◌, ◌++◌, ◌∷◌, [], List, IfOk, OnOk, filter};
-ghost use Rattle.ledger.specs.declared.finding.Finding.{Finding};
+ghost use Rattle.std.specs.Prelude.{◌≡◌, IfOk};
 ghost use Rattle.surveys.specs.Coded.{AreLineCodes};
-ghost use Rattle.surveys.specs.Found.{AreFindings, AreLineFindings, codes_of};
-ghost use Rattle.surveys.specs.Lines.{is_some_line};
+ghost use Rattle.surveys.specs.Found.{AreLineFindings, codes_of};
 ghost use Rattle.surveys.specs.declared.kind.LineKind.TheVariants.{Recording};
 
-use crate::judged::judge_line;
+use crate::judged::LineJudge;
 use crate::kind::LineKind;
 use crate::lines::split_line;
 use common::{Gate, OpenGate, OutOfMemory};
 use ledger::Finding;
 use std::alloc::Global;
 
-/// Adds what is found in a line, unless it is empty. The first finding is that of the recording of this number.
-fn add_finding<G: Gate>(
-    alloc: Global,
-    kind: LineKind,
-    findings: &mut Vec<Finding>,
-    line: &[u8],
-    first: usize,
-    gate: &G,
-    worker: usize,
-) -> Result<(), OutOfMemory>
-    ensures { OnOk result ((found : List Finding) × AreFindings kind (filter is_some_line (line.now ∷ [])) found
-        × (findings.new.items ≡ findings.old.items ++ found)) }
-{
-    if line.is_empty() {
-        return Ok(());
+impl<G: Gate> LineJudge<'_, G> {
+    ghost use Rattle.std.specs.Prelude.{◌≡◌, ◌++◌, ◌∷◌, [], List, IfOk, OnOk, filter};
+    ghost use Rattle.ledger.specs.declared.finding.Finding.{Finding};
+    ghost use Rattle.surveys.specs.Found.{AreFindings, AreLineFindings};
+    ghost use Rattle.surveys.specs.Lines.{is_some_line};
+
+    /// Adds what is found in a line, unless it is empty. The first finding is that of the recording of this number.
+    fn add_finding(
+        &self,
+        findings: &mut Vec<Finding>,
+        line: &[u8],
+        first: usize,
+    ) -> Result<(), OutOfMemory>
+        ensures { OnOk result ((found : List Finding)
+            × AreFindings self.now.kind (filter is_some_line (line.now ∷ [])) found
+            × (findings.new.items ≡ findings.old.items ++ found)) }
+    {
+        if line.is_empty() {
+            return Ok(());
+        }
+        let number = first.wrapping_add(findings.len());
+        findings.push(self.judge_line(line, number)?)?;
+        Ok(())
     }
-    let number = first.wrapping_add(findings.len());
-    findings.push(judge_line(alloc, kind, line, gate, worker, number)?)?;
-    Ok(())
+
+    /// What is found in the lines of some bytes, in order; the gate hears of each recording, the first of which has
+    /// this number. Fails only if out of memory.
+    pub(crate) fn judge_lines(
+        &self,
+        bytes: &[u8],
+        first: usize,
+    ) -> Result<Vec<Finding>, OutOfMemory>
+        ensures { IfOk result (λ findings. AreLineFindings self.now.kind bytes.now findings.items) }
+    {
+        let mut findings = Vec::new(self.alloc);
+        let mut rest = bytes;
+        'lines: while !rest.is_empty() {
+            let (line, more) = split_line(rest);
+            self.add_finding(&mut findings, line, first)?;
+            rest = more;
+        }
+        Ok(findings)
+    }
 }
 
-/// What is found in the lines of some bytes, in order, by this worker; the gate hears of each recording, the first of
-/// which has this number. Fails only if out of memory.
-pub(crate) fn judge_lines<G: Gate>(
+/// What is found in the lines of some bytes, in order, of which no gate hears. Fails only if out of memory.
+pub(crate) fn judge_unheard(
     alloc: Global,
     kind: LineKind,
     bytes: &[u8],
-    first: usize,
-    gate: &G,
-    worker: usize,
 ) -> Result<Vec<Finding>, OutOfMemory>
     ensures { IfOk result (λ findings. AreLineFindings kind bytes.now findings.items) }
 {
-    let mut findings = Vec::new(alloc);
-    let mut rest = bytes;
-    'lines: while !rest.is_empty() {
-        let (line, more) = split_line(rest);
-        add_finding(alloc, kind, &mut findings, line, first, gate, worker)?;
-        rest = more;
-    }
-    Ok(findings)
+    let judge = LineJudge {
+        alloc,
+        kind,
+        gate: &OpenGate,
+        worker: 0,
+    };
+    judge.judge_lines(bytes, 0)
 }
 
 /// The codes of findings, in order. Fails only if out of memory.
@@ -73,6 +90,6 @@ pub(crate) fn codes_of(alloc: Global, findings: &[Finding]) -> Result<Vec<u64>, 
 pub fn codes_of_lines(alloc: Global, bytes: &[u8]) -> Result<Vec<u64>, OutOfMemory>
     ensures { IfOk result (λ codes. AreLineCodes Recording bytes.now codes.items) }
 {
-    let findings = judge_lines(alloc, LineKind::Recording, bytes, 0, &OpenGate, 0)?;
+    let findings = judge_unheard(alloc, LineKind::Recording, bytes)?;
     codes_of(alloc, &findings)
 }

@@ -1,7 +1,8 @@
 //! What a survey works by.
 
-use crate::batch::Batch;
+use crate::batch::{Batch, Extent};
 use crate::filling::FillUntil;
+use crate::judged::LineJudge;
 use crate::kind::LineKind;
 use crate::queue::{Turn, WhenLate, WorkQueue};
 use crate::reports::Reports;
@@ -66,20 +67,28 @@ impl<R: Wait, G: Gate> Engine<'_, R, G> {
         self.queue.offer(self.rt, self.alloc, lines, self.batch)
     }
 
+    /// What judges lines as this worker.
+    pub(crate) fn line_judge(&self, worker: usize) -> LineJudge<'_, G> {
+        LineJudge {
+            alloc: self.alloc,
+            kind: self.kind,
+            gate: self.gate,
+            worker,
+        }
+    }
+
     /// Judges the batch with this number by this worker, and puts it back to where it lay.
     fn judge(&self, number: usize, mut batch: Batch, worker: usize) {
-        batch.judge(self.alloc, self.kind, self.gate, worker);
+        batch.judge(&self.line_judge(worker));
         self.queue.put_back(self.rt, number, batch);
     }
 
-    /// The first of these lines, of this many bytes and recordings, as a batch of which no gate hears; none where
-    /// memory runs out.
-    fn first_again(&self, lines: &[u8], length: usize, recordings: usize) -> Option<Batch> {
-        let mut bytes = Vec::new(self.alloc);
-        let Ok(()) = bytes.extend_from_slice(lines.get(..length)?) else {
+    /// The first of these lines, of this extent, as a batch of which no gate hears; none where memory runs out.
+    fn first_again(&self, lines: &[u8], extent: Extent) -> Option<Batch> {
+        let Ok(bytes) = Vec::from_slice(self.alloc, lines.get(..extent.bytes)?) else {
             return None;
         };
-        Some(Batch::new(bytes, None, recordings))
+        Some(Batch::new(bytes, None, extent.recordings))
     }
 
     /// Judges batches until the queue is closed, or 2^64 - 1 of them.
@@ -124,8 +133,8 @@ impl<R: Wait, G: Gate> Engine<'_, R, G> {
                 Turn::Over => return None,
                 Turn::Collected(batch) => return Some(self.join_judged(batch)),
                 Turn::Judge(number, batch) => self.judge(number, batch, 0),
-                Turn::OfferAgain(length, recordings) => {
-                    let again = self.first_again(lines, length, recordings);
+                Turn::OfferAgain(extent) => {
+                    let again = self.first_again(lines, extent);
                     self.queue.offer_again(self.rt, again);
                 }
             }

@@ -116,11 +116,7 @@ fn finding_of_values(alloc: Global, bytes: &[u8], states: usize) -> Result<Findi
 }
 
 /// What is found in the bytes of a line of this kind. Fails only if out of memory.
-pub(crate) fn finding_of_line(
-    alloc: Global,
-    kind: LineKind,
-    bytes: &[u8],
-) -> Result<Finding, OutOfMemory>
+fn finding_of_line(alloc: Global, kind: LineKind, bytes: &[u8]) -> Result<Finding, OutOfMemory>
     ensures { IfOk result (IsLineFinding kind bytes.now) }
 {
     match kind {
@@ -130,30 +126,37 @@ pub(crate) fn finding_of_line(
     }
 }
 
-/// Tells the gate of a violation.
-fn report_violation<G: Gate>(gate: &G, worker: usize, number: usize, finding: Finding) {
-    match finding {
-        Finding::Overlook { .. } | Finding::Cycle(_) | Finding::Impossible => {
-            gate.found(worker, number)
-        }
-        _ => {}
-    }
+/// What judges lines: memory, what the lines are, who hears of them, and the worker that it hears of.
+#[derive(Drop)]
+pub(crate) struct LineJudge<'a, G> {
+    pub(crate) alloc: Global,
+    pub(crate) kind: LineKind,
+    pub(crate) gate: &'a G,
+    pub(crate) worker: usize,
 }
 
-/// What is found in the bytes of a line, of which the gate hears under this number. Fails only if out of memory.
-pub(crate) fn judge_line<G: Gate>(
-    alloc: Global,
-    kind: LineKind,
-    bytes: &[u8],
-    gate: &G,
-    worker: usize,
-    number: usize,
-) -> Result<Finding, OutOfMemory>
-    ensures { IfOk result (IsLineFinding kind bytes.now) }
-{
-    gate.begin(worker, number);
-    let finding = finding_of_line(alloc, kind, bytes)?;
-    report_violation(gate, worker, number, finding);
-    gate.done(worker, number);
-    Ok(finding)
+impl<G: Gate> LineJudge<'_, G> {
+    ghost use Rattle.std.specs.Prelude.{IfOk};
+    ghost use Rattle.surveys.specs.Found.{IsLineFinding};
+
+    /// Tells the gate of a violation.
+    fn report_violation(&self, number: usize, finding: Finding) {
+        match finding {
+            Finding::Overlook { .. } | Finding::Cycle(_) | Finding::Impossible => {
+                self.gate.found(self.worker, number)
+            }
+            _ => {}
+        }
+    }
+
+    /// What is found in the bytes of a line, of which the gate hears under this number. Fails only if out of memory.
+    pub(crate) fn judge_line(&self, bytes: &[u8], number: usize) -> Result<Finding, OutOfMemory>
+        ensures { IfOk result (IsLineFinding self.now.kind bytes.now) }
+    {
+        self.gate.begin(self.worker, number);
+        let finding = finding_of_line(self.alloc, self.kind, bytes)?;
+        self.report_violation(number, finding);
+        self.gate.done(self.worker, number);
+        Ok(finding)
+    }
 }

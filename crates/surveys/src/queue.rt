@@ -2,7 +2,7 @@
 
 ghost use Rattle.std.specs.Prelude.{◌≤◌, ◌<◌, length};
 
-use crate::batch::Batch;
+use crate::batch::{Batch, Extent};
 use crate::lines::split_line;
 use common::OutOfMemory;
 use std::alloc::Global;
@@ -42,8 +42,8 @@ enum Slot {
     Free,
     /// A batch that no worker has taken.
     Waiting(Batch),
-    /// Nothing, since a worker has taken the batch, with this many bytes and recordings.
-    Taken(usize, usize),
+    /// Nothing, since a worker has taken the batch, which has this extent.
+    Taken(Extent),
     /// A batch that a worker has taken, and no other one again.
     WaitingAgain(Batch),
     /// Nothing, since all that was offered of the batch is taken.
@@ -71,7 +71,7 @@ impl Slot {
     fn take(&mut self) -> Option<Batch> {
         match replace(self, Slot::Free) {
             Slot::Waiting(batch) => {
-                *self = Slot::Taken(batch.bytes().len(), batch.recordings());
+                *self = Slot::Taken(batch.extent());
                 Some(batch)
             }
             other => {
@@ -161,16 +161,14 @@ impl Slots {
         self.has_waiting() || matches!(self.at(self.oldest), Some(Slot::WaitingAgain(_)))
     }
 
-    /// How many bytes and recordings the oldest batch has, if a worker has it, half of those that lie here are judged,
-    /// and it is to be offered again.
-    fn late(&self) -> Option<(usize, usize)> {
+    /// The extent of the oldest batch, if a worker has it, half of those that lie here are judged, and it is to be
+    /// offered again.
+    fn late(&self) -> Option<Extent> {
         let all = self.next_put.wrapping_sub(self.oldest);
         match self.at(self.oldest) {
-            Some(Slot::Taken(length, recordings))
+            Some(Slot::Taken(extent))
                 if self.when_late == WhenLate::OfferAgain
-                    && self.judged >= all.wrapping_sub(self.judged) => {
-                Some((*length, *recordings))
-            }
+                    && self.judged >= all.wrapping_sub(self.judged) => { Some(*extent) }
             _ => None,
         }
     }
@@ -179,7 +177,7 @@ impl Slots {
     fn is_oldest_taken(&self) -> bool {
         matches!(
             self.at(self.oldest),
-            Some(Slot::Taken(..) | Slot::WaitingAgain(_) | Slot::TakenAgain)
+            Some(Slot::Taken(_) | Slot::WaitingAgain(_) | Slot::TakenAgain)
         )
     }
 
@@ -305,7 +303,7 @@ impl Slots {
             return Turn::Judge(number, batch);
         }
         match self.late() {
-            Some((length, recordings)) => Turn::OfferAgain(length, recordings),
+            Some(extent) => Turn::OfferAgain(extent),
             None => Turn::Over,
         }
     }
@@ -320,16 +318,15 @@ pub(crate) enum Turn {
     Collected(Batch),
     /// It judges the batch with this number.
     Judge(usize, Batch),
-    /// It offers the lines of the oldest batch again, which are this many bytes and recordings.
-    OfferAgain(usize, usize),
+    /// It offers the lines of the oldest batch again, which have this extent.
+    OfferAgain(Extent),
 }
 
-/// How many bytes the first lines have that make a batch of at most this many recordings, and how many of those lines
-/// are not empty.
-fn first_lines(bytes: &[u8], most: usize) -> (usize, usize)
+/// The extent of the first lines that make a batch of at most this many recordings: those of them that are not empty.
+fn first_lines(bytes: &[u8], most: usize) -> Extent
     requires { 0 < length bytes.now }
-    ensures some { 0 < result.0 }
-    ensures within { result.0 ≤ length bytes.now }
+    ensures some { 0 < result.bytes }
+    ensures within { result.bytes ≤ length bytes.now }
 {
     let (line, mut rest) = split_line(bytes);
     let mut recordings = usize::from(!line.is_empty());
@@ -338,7 +335,10 @@ fn first_lines(bytes: &[u8], most: usize) -> (usize, usize)
         recordings = recordings.wrapping_add(usize::from(!line.is_empty()));
         rest = more;
     }
-    (bytes.len() - rest.len(), recordings)
+    Extent {
+        bytes: bytes.len() - rest.len(),
+        recordings,
+    }
 }
 
 /// A queue. One thread puts batches and collects them. No clause says who judges a batch, or that it comes back as it
@@ -386,8 +386,7 @@ impl WorkQueue {
 
     /// Puts a batch with this many recordings; false where all slots are used or memory runs out.
     fn put<R: Wait>(&self, rt: &R, alloc: Global, bytes: &[u8], recordings: usize) -> bool {
-        let mut copy = Vec::new(alloc);
-        let Ok(()) = copy.extend_from_slice(bytes) else {
+        let Ok(copy) = Vec::from_slice(alloc, bytes) else {
             return false;
         };
         let is_put = self.slots.lock(rt).put(copy, recordings);
@@ -402,12 +401,12 @@ impl WorkQueue {
         let (from, mut room) = self.slots.lock(rt).totals_held();
         let mut rest = &lines[from.min(lines.len())..];
         'batches: while !rest.is_empty() {
-            let (end, recordings) = first_lines(rest, most);
-            if recordings > room || !self.put(rt, alloc, &rest[..end], recordings) {
+            let Extent { bytes, recordings } = first_lines(rest, most);
+            if recordings > room || !self.put(rt, alloc, &rest[..bytes], recordings) {
                 return false;
             }
             room = room.saturating_sub(recordings);
-            rest = &rest[end..];
+            rest = &rest[bytes..];
         }
         true
     }

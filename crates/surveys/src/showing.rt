@@ -22,15 +22,6 @@ pub(crate) enum Sought {
     Later(usize),
 }
 
-/// A copy of a line.
-fn copy_of_line(alloc: Global, line: &[u8]) -> Result<Vec<u8>, OutOfMemory>
-    ensures { IfOk result (λ copy. copy.items ≡ line.now) }
-{
-    let mut copy = Vec::with_capacity(alloc, line.len())?;
-    copy.extend_from_slice(line)?;
-    Ok(copy)
-}
-
 /// The line of this number among those of the bytes.
 fn line_in(alloc: Global, bytes: &[u8], number: usize) -> Result<Sought, OutOfMemory>
     ensures { IfOk result (IsSought bytes.now number) }
@@ -41,7 +32,7 @@ fn line_in(alloc: Global, bytes: &[u8], number: usize) -> Result<Sought, OutOfMe
         let (line, more) = split_line(rest);
         if !line.is_empty() {
             if left == 0 {
-                return Ok(Sought::Found(copy_of_line(alloc, line)?));
+                return Ok(Sought::Found(Vec::from_slice(alloc, line)?));
             }
             left -= 1;
         }

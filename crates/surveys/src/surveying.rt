@@ -32,42 +32,51 @@ use std::thread::Threads;
 /// How many bytes stay on the queue at most while the next ones are read.
 const KEPT: usize = BLOCK / 2;
 
-/// Counts the lines of all that a source gives, block by block.
-fn count_blocks<T: Wait, R: Source, W: Sink, G: Gate>(
-    engine: &Engine<'_, T, G>,
-    source: &mut R,
-    sink: &mut W,
-    counted: &mut Counted,
-    chunk: &mut [u8],
-    block: &mut Vec<u8>,
-) -> Result<(), SurveyError>
-    requires room { 0 < length chunk.old }
-    requires empty { block.old.items ≡ [] }
-    requires none { IsSurveyLedger [] counted.old.ledger × (counted.old.bytes ≡ 0) }
-    ensures whole { OnOk result (IsSurveyOfRead engine.now.kind (R.left source.old) (R.left source.new)
-        counted.new.ledger engine.now.reports (W.written sink.old) (W.written sink.new)) }
-    ensures met { OnOk result (R.is_ended source.new ≡ true) }
-    ensures all { OnOk result (IsAtEnd (R.left source.new)) }
-    ensures long { IfErr result (λ e. IsLongRead e (R.left source.old) (R.left source.new)) }
-    ensures reads { FailsBy is_read_failure (R.read_failed source.old) (R.read_failed source.new) result }
-    ensures writes { FailsBy is_write_failure (W.write_failed sink.old) (W.write_failed sink.new) result }
-    ensures silent { engine.now.reports ≢ EachLine → sink.new ≡ sink.old }
-{
-    let mut seen = 0;
-    let until = fill_until(engine.reports);
-    'filled: while fill(source, chunk, block, until)? {
-        // After a chunk that is not full the next read may wait, and what is reported does not wait for it.
-        let waits = engine.reports == Reports::EachLine
-            && block.len().wrapping_sub(seen) % CHUNK != 0;
-        engine.count_offered(sink, counted, block, seen, if waits { 0 } else { KEPT })?;
-        seen = block.len();
+impl<T: Wait, G: Gate> Engine<'_, T, G> {
+    ghost use Rattle.std.specs.Prelude.{◌≡◌, ◌≢◌, ◌<◌, true, [], IfErr, OnOk, length};
+    ghost use Rattle.std.specs.Io.KnownBytes.{IsAtEnd};
+    ghost use Rattle.devices.specs.Bytes.{FailsBy};
+    ghost use Rattle.ledger.specs.Surveyed.{IsSurveyLedger};
+    ghost use Rattle.surveys.specs.declared.reports.Reports.TheVariants.{EachLine};
+    ghost use Rattle.surveys.specs.Surveys.{IsLongRead, IsSurveyOfRead, is_read_failure, is_write_failure};
+
+    /// Counts the lines of all that a source gives, block by block.
+    fn count_blocks<R: Source, W: Sink>(
+        &self,
+        source: &mut R,
+        sink: &mut W,
+        counted: &mut Counted,
+        chunk: &mut [u8],
+        block: &mut Vec<u8>,
+    ) -> Result<(), SurveyError>
+        requires room { 0 < length chunk.old }
+        requires empty { block.old.items ≡ [] }
+        requires none { IsSurveyLedger [] counted.old.ledger × (counted.old.bytes ≡ 0) }
+        ensures whole { OnOk result (IsSurveyOfRead self.now.kind (R.left source.old) (R.left source.new)
+            counted.new.ledger self.now.reports (W.written sink.old) (W.written sink.new)) }
+        ensures met { OnOk result (R.is_ended source.new ≡ true) }
+        ensures all { OnOk result (IsAtEnd (R.left source.new)) }
+        ensures long { IfErr result (λ e. IsLongRead e (R.left source.old) (R.left source.new)) }
+        ensures reads { FailsBy is_read_failure (R.read_failed source.old) (R.read_failed source.new) result }
+        ensures writes { FailsBy is_write_failure (W.write_failed sink.old) (W.write_failed sink.new) result }
+        ensures silent { self.now.reports ≢ EachLine → sink.new ≡ sink.old }
+    {
+        let mut seen = 0;
+        let until = fill_until(self.reports);
+        'filled: while fill(source, chunk, block, until)? {
+            // After a chunk that is not full the next read may wait, and what is reported does not wait for it.
+            let waits = self.reports == Reports::EachLine
+                && block.len().wrapping_sub(seen) % CHUNK != 0;
+            self.count_offered(sink, counted, block, seen, if waits { 0 } else { KEPT })?;
+            seen = block.len();
+        }
+        self.count_offered(sink, counted, block, seen, 0)?;
+        let rest = mem::replace(block, Vec::new(self.alloc));
+        let mut last = Batch::new(rest, Some(counted.ledger.ledger.total), 1);
+        last.judge(&self.line_judge(0));
+        self.count_batch(sink, counted, last)?;
+        Ok(())
     }
-    engine.count_offered(sink, counted, block, seen, 0)?;
-    let rest = mem::replace(block, Vec::new(engine.alloc));
-    let mut last = Batch::new(rest, Some(counted.ledger.ledger.total), 1);
-    last.judge(engine.alloc, engine.kind, engine.gate, 0);
-    engine.count_batch(sink, counted, last)?;
-    Ok(())
 }
 
 /// Counts the lines of a source by this many workers, of which each but the calling thread has a thread of its own that
@@ -110,7 +119,7 @@ fn count_by_workers<T: Threads + Wait + Sync, R: Source, W: Sink, G: Gate>(
             × FailsBy is_read_failure (R.read_failed source.entry.now) (R.read_failed source.exit.now) result
             × FailsBy is_write_failure (W.write_failed sink.entry.now) (W.write_failed sink.exit.now) result
             × (engine.entry.now.reports ≢ EachLine → sink.exit.now ≡ sink.entry.now) }
-    { count_blocks(engine, source, sink, counted, chunk, block) };
+    { engine.count_blocks(source, sink, counted, chunk, block) };
     with_workers(engine, workers, &mut counting)
 }
 

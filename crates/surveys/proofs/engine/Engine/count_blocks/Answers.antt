@@ -4,11 +4,11 @@ use Rattle.surveys.proofs.Blocks.{begun, gone_on, same_size}
 use Rattle.surveys.specs.Surveys.{IsLong, IsLongRead}
 use Rattle.surveys.proofs.Batches.{all_ended}
 use Rattle.surveys.proofs.Long.{from_err, long_under, long_way}
-use Rattle.surveys.proofs.surveying.count_blocks.Goals as goal
+use Rattle.surveys.proofs.engine.Engine.count_blocks.Goals as goal
 
 pub filled-init : goal.filled-init
 filled-init g c =
-    let e = c.args.engine.now in
+    let e = c.args.self.now in
     let left = g.R.Source.left c.args.source.now in
     let told = g.W.Sink.written c.args.sink.now in
     let at : ℕ = c.args.counted.now.bytes in
@@ -21,7 +21,7 @@ filled-init g c =
 
 pub filled-preserved : goal.filled-preserved
 filled-preserved g c =
-    let e = c.args.engine.now in record {
+    let e = c.args.self.now in record {
       way =
           gone_on e.kind e.reports _ (g.R.Source.left c.filled.source) _ _ _ c.filled.counted.ledger
           c.filled.counted.bytes c.filled.block.items c.fill.new.block.items c.filled.invariant.way
@@ -36,7 +36,7 @@ filled-preserved g c =
 
 pub filled-smaller : goal.filled-smaller
 filled-smaller g c =
-    let e = c.args.engine.now in omega (
+    let e = c.args.self.now in omega (
       arith,
       same_size e.kind e.reports _ (g.R.Source.left c.filled.source) _ _ _ c.filled.counted.ledger
           c.filled.counted.bytes c.filled.block.items c.fill.new.block.items c.filled.invariant.way
@@ -49,7 +49,7 @@ filled-smaller g c =
 
 pub count_batch-requires : goal.count_batch-requires
 count_batch-requires g c =
-    let e = c.args.engine.now in
+    let e = c.args.self.now in
     let way = gone_on e.kind e.reports _ (g.R.Source.left c.filled.source) _ _ _ c.filled.counted.ledger
     c.filled.counted.bytes c.filled.block.items c.fill.new.block.items c.filled.invariant.way
     c.in_ok-fill.ensures.gathered c.count_offered-2.new.counted.ledger c.count_offered-2.new.counted.bytes
@@ -58,7 +58,7 @@ count_batch-requires g c =
 
 pub returns-clause-whole : goal.returns-clause-whole
 returns-clause-whole g c =
-    let e = c.args.engine.now in
+    let e = c.args.self.now in
     let rest : List ℕ = c.count_offered-2.new.block.items in
     let was = g.W.Sink.written c.count_offered-2.new.sink in
     let is = g.W.Sink.written c.count_batch.new.sink in
@@ -74,7 +74,7 @@ returns-clause-whole g c =
 
 pub returns-in_err-count_offered-clause-long : goal.returns-in_err-count_offered-clause-long
 returns-in_err-count_offered-clause-long g c =
-    let e = c.args.engine.now in
+    let e = c.args.self.now in
     let start = g.R.Source.left c.args.source.now in
     let end = g.R.Source.left c.fill.new.source in
     from_err _ c.in_err-count_offered.field-0.0 (λ e. IsLongRead e start end)
@@ -85,7 +85,7 @@ returns-in_err-count_offered-clause-long g c =
 
 pub returns-in_err-count_offered-2-clause-long : goal.returns-in_err-count_offered-2-clause-long
 returns-in_err-count_offered-2-clause-long g c =
-    let e = c.args.engine.now in
+    let e = c.args.self.now in
     let start = g.R.Source.left c.args.source.now in
     let end = g.R.Source.left c.fill.new.source in
     from_err _ c.in_err-count_offered-2.field-0.0 (λ e. IsLongRead e start end)
@@ -96,7 +96,7 @@ returns-in_err-count_offered-2-clause-long g c =
 
 pub returns-in_err-count_batch-clause-long : goal.returns-in_err-count_batch-clause-long
 returns-in_err-count_batch-clause-long g c =
-    let e = c.args.engine.now in
+    let e = c.args.self.now in
     let start = g.R.Source.left c.args.source.now in
     let end = g.R.Source.left c.fill.new.source in
     let rest : List ℕ = c.count_offered-2.new.block.items in
