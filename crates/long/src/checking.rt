@@ -10,7 +10,7 @@ use crate::linking::link_all;
 use crate::newest::overlook;
 use common::{EventId, OutOfMemory};
 use recording::Recording;
-use relations::{Places, WritePlaces, forced_is_exact};
+use relations::{Places, forced_is_exact};
 use std::alloc::Global;
 
 /// For each number below a count its place in a list that has each once and nothing else; none for any other list.
@@ -69,11 +69,10 @@ pub fn is_tso_order(
     let Some(positions) = positions(alloc, order, recording.len())? else {
         return Ok(false);
     };
-    let writes = WritePlaces::of(alloc, recording)?;
-    if let Some(_found) = overlook(alloc, &writes)? {
+    if let Some(_found) = overlook(alloc, recording)? {
         return Ok(false);
     }
-    let places = Places::of_writes(alloc, writes)?;
+    let places = Places::of(alloc, recording)?;
     let linked = link_all(alloc, &places)?;
     Ok(all_follow(&linked.list, &positions))
 }

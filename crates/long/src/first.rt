@@ -7,7 +7,7 @@ use crate::newest::overlook;
 use crate::sorting::{Sorted, Unsorted, sort};
 use common::{EventId, OutOfMemory};
 use recording::Recording;
-use relations::{Places, WritePlaces, forced_is_exact, ordered_is_acyclic};
+use relations::{Places, forced_is_exact, ordered_is_acyclic};
 use std::alloc::Global;
 
 /// What is found of a recording before any cycle is.
@@ -34,11 +34,10 @@ pub fn first_order<'a>(
     recording.sound();
     forced_is_exact();
     ordered_is_acyclic();
-    let writes = WritePlaces::of(alloc, recording)?;
-    if let Some((load, store)) = overlook(alloc, &writes)? {
+    if let Some((load, store)) = overlook(alloc, recording)? {
         return Ok(FirstOrder::Overlook(load, store));
     }
-    let places = Places::of_writes(alloc, writes)?;
+    let places = Places::of(alloc, recording)?;
     match sort(alloc, &places)? {
         Sorted::Ordered(order) => Ok(FirstOrder::Order(order)),
         Sorted::Blocked(left) => Ok(FirstOrder::Cyclic(places, left)),

@@ -5,18 +5,29 @@ use crate::construction::bounded_lists;
 use crate::record::{record_all, unwrap_all};
 use common::{EventId, OutOfMemory};
 use program::Ops;
-use recording::Event;
+use recording::{Event, PlaceRoom};
 use std::alloc::Global;
 use std::marker::Model;
 
-/// The room for a recording: for each core's events, and for the write lists; and the initial values.
+/// The room for a recording: for each core's events, for the write lists and for the places of writes; and the initial
+/// values.
 #[derive(Drop)]
 pub(crate) struct Blank {
     cores: BoundedList<Vec<Event>>,
     events: Vec<BoundedList<Event>>,
     room: usize,
     writes: BoundedList<Vec<EventId>>,
+    places: PlaceRoom,
     init: Vec<u32>,
+}
+
+/// The parts of a recording, and room for the places of its writes.
+#[derive(Drop)]
+pub(crate) struct Filled {
+    pub(crate) places: PlaceRoom,
+    pub(crate) cores: Vec<Vec<Event>>,
+    pub(crate) writes: Vec<Vec<EventId>>,
+    pub(crate) init: Vec<u32>,
 }
 
 impl Model for Blank {
@@ -32,7 +43,7 @@ impl Model for Blank {
       initial = b.init.items;
     } };
 
-    ghost invariant = { λ b. (b.cores.items ≡ []) × (b.writes.items ≡ [])
+    ghost invariant = { λ b. (b.cores.items ≡ []) × (b.writes.items ≡ []) × (b.places ≡ b.room)
         × (b.events.items ≡ replicate b.cores.room (record { items = []; room = b.room })) };
 }
 
@@ -61,6 +72,7 @@ impl Blank {
             events: bounded_lists(alloc, cores, events)?,
             room: events,
             writes: BoundedList::new(alloc, init.len())?,
+            places: PlaceRoom::new(alloc, events)?,
             init: Vec::from_slice(alloc, init)?,
         })
     }
@@ -72,26 +84,29 @@ impl Blank {
         program: &[Ops],
         reads: &[(u32, Option<EventId>)],
         writes: Vec<BoundedList<EventId>>,
-    ) -> (Vec<Vec<Event>>, Vec<Vec<EventId>>, Vec<u32>)
+    ) -> Filled
         requires cores { self.cores ≡ length program.now }
         requires events { self.events ≡ length reads.now }
         requires addresses { self.addresses ≡ length writes.items }
         requires fits { op_count program.now ≤ length reads.now }
-        ensures cores { map (λ v. v.items) result.0.items ≡ cores_from 0 program.now reads.now }
-        ensures writes { map (λ v. v.items) result.1.items ≡ map (λ b. b.items) writes.items }
-        ensures initial { result.2.items ≡ self.initial }
+        ensures places { result.places ≡ self.events }
+        ensures cores { map (λ v. v.items) result.cores.items ≡ cores_from 0 program.now reads.now }
+        ensures writes { map (λ v. v.items) result.writes.items ≡ map (λ b. b.items) writes.items }
+        ensures initial { result.init.items ≡ self.initial }
     {
         let Blank {
             cores,
             events,
             writes: lists,
+            places,
             init,
             ..
         } = self;
-        (
-            record_all(cores, events, program, reads),
-            unwrap_all(lists, writes),
+        Filled {
+            places,
+            cores: record_all(cores, events, program, reads),
+            writes: unwrap_all(lists, writes),
             init,
-        )
+        }
     }
 }

@@ -1,6 +1,6 @@
 //! The machine: cores with store buffers and caches over one memory.
 
-use crate::blank::Blank;
+use crate::blank::{Blank, Filled};
 use crate::bounded::BoundedList;
 use crate::construction::{bounded_lists, buffers_of, units_of};
 use common::{Addr, CoreId, EventId, OutOfMemory};
@@ -246,8 +246,14 @@ impl Machine {
             blank,
             ..
         } = self;
-        let (cores, writes, init) = blank.fill(program.lists(), reads.as_slice(), writes);
+        let filled = blank.fill(program.lists(), reads.as_slice(), writes);
         drop(program);
-        Ok(Recording::new(cores, writes, init))
+        let Filled {
+            places,
+            cores,
+            writes,
+            init,
+        } = filled;
+        Ok(Recording::in_room(places, cores, writes, init))
     }
 }

@@ -1,5 +1,5 @@
--- A walk over the events of all cores, one after the other, and the table that it fills.
-use Rattle.std.proofs.Common.{◌≡◌, ◌<◌, ◌≤◌, ◌+◌, ◌-◌, ◌++◌, ℕ, inl, inr, Option, None, List, [], ◌∷◌, length, get_or}
+-- A walk over the events of all cores, one after the other, and the slots that it fills.
+use Rattle.std.proofs.Common.{◌≡◌, ◌<◌, ◌≤◌, ◌+◌, ◌-◌, ◌++◌, ℕ, inl, inr, List, [], false, ◌∷◌, length, get_or}
 use Rattle.std.proofs.Common.{map, arith, sym, ap, subst, ◌∙◌, Vec, Global}
 use Rattle.std.proofs.lemmas.Bool.{cases_lt}
 use Rattle.std.proofs.lemmas.List.{get_or_append_left, get_or_at, get_or_default, get_or_past, length-append}
@@ -7,7 +7,9 @@ use Rattle.recording.specs.declared.event.Event.{Event}
 use Rattle.recording.specs.declared.event.Event.TheVariants.{F}
 use Rattle.recording.specs.Execution.{Execution, event_count, event_at}
 use Rattle.recording.specs.EventLaws.{event_past}
-use Rattle.recording.specs.Listed.{written, numbered, AreNumbered}
+use Rattle.recording.specs.declared.slots.Slot.{Slot}
+use Rattle.recording.specs.declared.slots.Slot.TheVariants.{Quiet}
+use Rattle.recording.specs.Listed.{is_marked, is_placed, slot_at, written, written_of, AreNumbered}
 use Rattle.recording.proofs.Finds.{IsAfter, after_more, after_found, after_end, core_seen}
 
 -- core k has the events es
@@ -74,45 +76,58 @@ reached_end x k number past reached =
     let same : number + 0 ≡ number = omega arith in
     after_end x k number past (subst (λ (n : ℕ). IsAfter x.cores k 0 n) same (reached.after 0))
 
--- the table has what the events before that place write
-pub record IsFilled (x : Execution) (k i : ℕ) (table : List (Option (ℕ × ℕ))) : Type 0 where
-  pub reached : IsReached x k i (length table)
-  pub events : (e : ℕ) → e < length table → numbered table e ≡ written (event_at x e)
+-- the slots have what the events before that place write, and none is marked
+pub record IsFilled (x : Execution) (k i : ℕ) (slots : List Slot) : Type 0 where
+  pub reached : IsReached x k i (length slots)
+  pub events : (e : ℕ) → e < length slots → written_of (slot_at slots e) ≡ written (event_at x e)
+  pub unmarked : (e : ℕ) → e < length slots → is_marked slots e ≡ false
 
 -- one event more
-pub filled_next : (x : Execution) (k i : ℕ) (table : List (Option (ℕ × ℕ))) (es : List Event) (d : Event)
-    (w : Option (ℕ × ℕ)) → IsCore x k es → i < length es → w ≡ written (get_or es i d) → IsFilled x k i table
-    → IsFilled x k (i + 1) (table ++ w ∷ [])
-filled_next x k i table es d w core here writes filled =
-    let all : length table + 1 ≡ length (table ++ w ∷ []) = omega (arith, length-append table (w ∷ [])) in record {
+pub filled_next : (x : Execution) (k i : ℕ) (slots : List Slot) (es : List Event) (d : Event) (s : Slot)
+    → IsCore x k es → i < length es → written_of s ≡ written (get_or es i d) → is_placed s ≡ false → IsFilled x k i slots
+    → IsFilled x k (i + 1) (slots ++ s ∷ [])
+filled_next x k i slots es d s core here writes unmet filled =
+    let all : length slots + 1 ≡ length (slots ++ s ∷ []) = omega (arith, length-append slots (s ∷ [])) in record {
       reached = subst (λ (n : ℕ). IsReached x k (i + 1) n) all
-          (reached_next x k i (length table) es core here filled.reached);
-      events = λ e below. elim (cases_lt e (length table)) [
-        | inl before ↦ get_or_append_left table (w ∷ []) None e before ∙ filled.events e before
+          (reached_next x k i (length slots) es core here filled.reached);
+      events = λ e below. elim (cases_lt e (length slots)) [
+        | inl before ↦ ap written_of (get_or_append_left slots (s ∷ []) Quiet e before) ∙ filled.events e before
         | inr last ↦
-            let same : length table ≡ e = omega (arith, all, below, last) in
-            get_or_at table w [] None e same ∙ writes
+            let same : length slots ≡ e = omega (arith, all, below, last) in
+            ap written_of (get_or_at slots s [] Quiet e same) ∙ writes
             ∙ ap written (subst (λ (n : ℕ). get_or es i d ≡ event_at x n) same
-            (sym (reached_event x k i (length table) es d core here filled.reached).1))
+            (sym (reached_event x k i (length slots) es d core here filled.reached).1))
+      ];
+      unmarked = λ e below. elim (cases_lt e (length slots)) [
+        | inl before ↦ ap is_placed (get_or_append_left slots (s ∷ []) Quiet e before) ∙ filled.unmarked e before
+        | inr last ↦
+            let same : length slots ≡ e = omega (arith, all, below, last) in
+            ap is_placed (get_or_at slots s [] Quiet e same) ∙ unmet
       ];
     }
 
 -- one core more
-pub filled_core : (x : Execution) (k i : ℕ) (table : List (Option (ℕ × ℕ))) (es : List Event) → IsCore x k es
-    → length es ≤ i → IsFilled x k i table → IsFilled x (k + 1) 0 table
-filled_core x k i table es core past filled = record {
-  reached = reached_core x k i (length table) es core past filled.reached;
+pub filled_core : (x : Execution) (k i : ℕ) (slots : List Slot) (es : List Event) → IsCore x k es
+    → length es ≤ i → IsFilled x k i slots → IsFilled x (k + 1) 0 slots
+filled_core x k i slots es core past filled = record {
+  reached = reached_core x k i (length slots) es core past filled.reached;
   events = filled.events;
+  unmarked = filled.unmarked;
 }
 
 -- with all cores each event has at its number what it writes
-pub filled_all : (x : Execution) (k : ℕ) (table : List (Option (ℕ × ℕ))) → length x.cores ≤ k
-    → IsFilled x k 0 table → AreNumbered x table
-filled_all x k table past filled =
-    let all : length table ≡ event_count x = reached_end x k (length table) past filled.reached in record {
+pub filled_all : (x : Execution) (k : ℕ) (slots : List Slot) → length x.cores ≤ k
+    → IsFilled x k 0 slots → AreNumbered x slots
+filled_all x k slots past filled =
+    let all : length slots ≡ event_count x = reached_end x k (length slots) past filled.reached in record {
       count = all;
-      events = λ e. elim (cases_lt e (length table)) [
+      events = λ e. elim (cases_lt e (length slots)) [
         | inl below ↦ filled.events e below
-        | inr above ↦ get_or_past table e None above ∙ sym (ap written (event_past x e (omega (arith, all, above))))
+        | inr above ↦ ap written_of (get_or_past slots e Quiet above)
+            ∙ sym (ap written (event_past x e (omega (arith, all, above))))
+      ];
+      unmarked = λ e. elim (cases_lt e (length slots)) [
+        | inl below ↦ filled.unmarked e below
+        | inr above ↦ ap is_placed (get_or_past slots e Quiet above)
       ];
     }

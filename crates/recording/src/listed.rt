@@ -1,125 +1,164 @@
-//! The write lists of parts of a recording, which may break its rules.
+//! The write lists of parts of a recording, which may break its rules, and the places of the writes.
 
-use crate::numbered::Numbered;
-use common::{Addr, EventId, OutOfMemory};
-use std::alloc::Global;
+ghost use Rattle.std.specs.Prelude.{◌≡◌, ◌↔◌, ◌<◌, ◌≤◌, ℕ, IsTrue};
+ghost use Rattle.recording.specs.Listed.{slot_at};
+ghost use Rattle.recording.specs.declared.slots.Slot.TheVariants.{Written};
 
-impl<'p> Numbered<'p> {
-    ghost use Rattle.std.specs.Prelude.{◌≡◌, ◌↔◌, ◌<◌, ◌≤◌, ℕ, IsTrue, IfOk, false, length};
+use crate::lists::item_or;
+use crate::parts::RecordingParts;
+use crate::slots::{Slot, WritePlace};
+use common::{Addr, EventId};
+
+/// Whether an event writes an address and was not met in a write list.
+fn is_unmet(slots: &[Slot], number: EventId, address: Addr) -> bool
+    ensures { IsTrue result ↔ ((w : ℕ) × (slot_at slots.now number ≡ Written address w)) }
+{
+    match slots.get(number as usize) {
+        Some(Slot::Written(written, _)) => *written == address,
+        _ => false,
+    }
+}
+
+/// Whether each event that writes was met in a write list. No step of its loop depends on what an event does.
+fn are_all_met(slots: &[Slot]) -> bool
+    ensures { IsTrue result → (e a w : ℕ) → ¬ (slot_at slots.now e ≡ Written a w) }
+{
+    let mut all = true;
+    for slot in slots {
+        all = all & !matches!(slot, Slot::Written(..));
+    }
+    all
+}
+
+/// The address that an event writes that was not met in a write list, where it is below a count; else the count.
+fn unmet_below(slot: Slot, count: usize) -> usize
+    ensures bound { result ≤ count }
+    ensures least { (a w : ℕ) → slot ≡ Written a w → result ≤ a }
+    ensures unmet { result < count → (w : ℕ) × (slot ≡ Written result w) }
+{
+    match slot {
+        Slot::Written(address, _) => count.min(address as usize),
+        _ => count,
+    }
+}
+
+/// The least address below a count that an event writes that was not met in a write list; else the count.
+fn first_unmet(slots: &[Slot], count: usize) -> usize
+    ensures bound { result ≤ count }
+    ensures least { (e a w : ℕ) → slot_at slots.now e ≡ Written a w → result ≤ a }
+    ensures unmet { result < count → (e w : ℕ) × (slot_at slots.now e ≡ Written result w) }
+{
+    if are_all_met(slots) {
+        return count;
+    }
+    let mut first = count;
+    for slot in slots {
+        first = unmet_below(*slot, first);
+    }
+    first
+}
+
+impl RecordingParts {
+    ghost use Rattle.std.specs.Prelude.{◌≡◌, ◌↔◌, ◌<◌, ◌≤◌, ℕ, IsTrue, MatchOption, false, length};
     ghost use Rattle.common.specs.declared.limits.TheConstants.{MAX_RECORDED_EVENTS};
     ghost use Rattle.recording.specs.Execution.{event_count, write_list, Writes};
     ghost use Rattle.recording.specs.Order.{times};
-    ghost use Rattle.recording.specs.Listed.{is_marked, AreMarked, ListsEachWrite, ListsWritesOnce};
+    ghost use Rattle.recording.specs.Listed.{is_marked, slot_at, AreSlots, AreNumbered, ArePlaced, ArePlacedBelow};
+    ghost use Rattle.recording.specs.Listed.{IsPlaced, ListsEachWrite, ListsWritesOnce};
     ghost use Rattle.recording.specs.Recording.{IsWithinLimits};
     ghost use Rattle.recording.specs.declared.size.RecordingSize.TheVariants.{Long};
-    ghost use Rattle.recording.specs.Refusals.{HasWriteList};
+    ghost use Rattle.recording.specs.Refusals.{HasWriteList, IsLeastWithout};
 
     /// Whether each number in the write list of an address writes it and stands once. Then its numbers are
-    /// the marked writes of the address.
-    fn lists_writes_once(&self, address: Addr, marks: &mut [bool]) -> bool
-        requires size { length marks.old ≡ event_count self.now }
-        requires unmarked { (e : ℕ) → Writes self.now e address → is_marked marks.old e ≡ false }
-        ensures size { length marks.new ≡ length marks.old }
+    /// the marked writes of the address, each with its place.
+    fn lists_writes_once(&self, address: Addr, slots: &mut [Slot]) -> bool
+        requires few_events { event_count self.now ≤ MAX_RECORDED_EVENTS }
+        requires slots { AreSlots self.now slots.old }
+        requires unmarked { (e : ℕ) → Writes self.now e address → is_marked slots.old e ≡ false }
+        ensures slots { AreSlots self.now slots.new }
         ensures once { IsTrue result ↔ ListsWritesOnce self.now address }
         ensures marked { IsTrue result → (e : ℕ) → Writes self.now e address
-            → IsTrue (is_marked marks.new e) ↔ (0 < times (write_list self.now address) e) }
-        ensures others { (e : ℕ) → ¬ Writes self.now e address
-            → is_marked marks.new e ≡ is_marked marks.old e }
+            → IsTrue (is_marked slots.new e) ↔ (0 < times (write_list self.now address) e) }
+        ensures placed { IsTrue result → (e : ℕ) → 0 < times (write_list self.now address) e
+            → IsPlaced (write_list self.now address) e (slot_at slots.new e) }
+        ensures others { (e : ℕ) → ¬ Writes self.now e address → slot_at slots.new e ≡ slot_at slots.old e }
     {
         let list = self.write_list(address);
+        if list.len() > slots.len() {
+            return false;
+        }
         for i in 0..list.len() {
             let number = list[i];
-            if !self.writes_to(number, address) {
+            if !is_unmet(slots, number, address) {
                 return false;
             }
-            if marks[number as usize] {
-                return false;
-            }
-            marks[number as usize] = true;
+            slots[number as usize] = Slot::Placed(WritePlace {
+                place: i as u32,
+                next: item_or(list, i + 1, number),
+            });
         }
         true
     }
 
     /// How many write lists from the first have writes of their addresses alone, each once. What stands in
-    /// them gets marked.
-    fn first_lists_once(&self, marks: &mut [bool]) -> usize
+    /// them gets its place.
+    fn place_lists(&self, slots: &mut [Slot]) -> usize
         requires within { IsWithinLimits Long self.now }
-        requires size { length marks.old ≡ event_count self.now }
-        requires unmarked { (e : ℕ) → is_marked marks.old e ≡ false }
-        ensures size { length marks.new ≡ length marks.old }
+        requires numbered { AreNumbered self.now slots.old }
+        ensures slots { AreSlots self.now slots.new }
         ensures there { result ≤ length self.now.write_lists }
         ensures once { (a : ℕ) → a < result → ListsWritesOnce self.now a }
         ensures last { result < length self.now.write_lists → ¬ ListsWritesOnce self.now result }
-        ensures marked { AreMarked self.now result marks.new }
+        ensures placed { ArePlacedBelow self.now result slots.new }
     {
-        let count = self.parts().writes().len();
+        let count = self.writes().len();
         for address in 0..count {
-            if !self.lists_writes_once(address as Addr, marks) {
+            if !self.lists_writes_once(address as Addr, slots) {
                 return address;
             }
         }
         count
     }
 
-    /// Whether each event that writes is marked. No step of its loop depends on what an event does.
-    fn are_all_marked(&self, marks: &[bool]) -> bool
-        requires few_events { event_count self.now ≤ MAX_RECORDED_EVENTS }
-        requires size { length marks.now ≡ event_count self.now }
-        ensures { IsTrue result → (e a : ℕ) → Writes self.now e a → IsTrue (is_marked marks.now e) }
-    {
-        let mut all = true;
-        for number in 0..self.len() as EventId {
-            all = all & (marks[number as usize] | self.written(number).is_none());
-        }
-        all
-    }
-
-    /// The address that an unmarked event writes, where it is below a count; else the count.
-    fn unmarked_below(&self, number: EventId, marks: &[bool], count: usize) -> usize
-        requires here { number < length marks.now }
-        ensures bound { result ≤ count }
-        ensures least { (a : ℕ) → Writes self.now number a → a < result
-            → IsTrue (is_marked marks.now number) }
-        ensures unmarked { result < count
-            → Writes self.now number result × (is_marked marks.now number ≡ false) }
-    {
-        if marks[number as usize] {
-            return count;
-        }
-        match self.written(number) {
-            Some((address, _)) => count.min(address as usize),
-            None => count,
-        }
-    }
-
-    /// How many of the first lists, as many of which are marked, have each write of their addresses.
-    fn first_lists_whole(&self, marks: &[bool], count: usize) -> usize
-        requires few_events { event_count self.now ≤ MAX_RECORDED_EVENTS }
-        requires size { length marks.now ≡ event_count self.now }
-        requires marked { AreMarked self.now count marks.now }
+    /// How many of the first lists, as many of which have their places, have each write of their addresses.
+    fn first_lists_whole(&self, slots: &[Slot], count: usize) -> usize
+        requires slots { AreSlots self.now slots.now }
+        requires placed { ArePlacedBelow self.now count slots.now }
         ensures bound { result ≤ count }
         ensures whole { (a : ℕ) → a < result → ListsEachWrite self.now a }
         ensures last { result < count → ¬ ListsEachWrite self.now result }
     {
-        if self.are_all_marked(marks) {
-            return count;
-        }
-        let mut whole = count;
-        for number in 0..self.len() as EventId {
-            whole = self.unmarked_below(number, marks, whole);
-        }
-        whole
+        first_unmet(slots, count)
     }
 
-    /// How many write lists from the first have each write of their addresses once and nothing else.
-    pub(crate) fn first_lists_right(&self, alloc: Global) -> Result<usize, OutOfMemory>
-        requires { IsWithinLimits Long self.now }
-        ensures there { IfOk result (λ n. n ≤ length self.now.write_lists) }
-        ensures right { IfOk result (λ n. (a : ℕ) → a < n → HasWriteList self.now a) }
-        ensures last { IfOk result (λ n. n < length self.now.write_lists → ¬ HasWriteList self.now n) }
+    /// How many write lists from the first have each write of their addresses once and nothing else. What stands in
+    /// them gets its place.
+    fn first_lists_right(&self, slots: &mut [Slot]) -> usize
+        requires within { IsWithinLimits Long self.now }
+        requires numbered { AreNumbered self.now slots.old }
+        ensures size { length slots.new ≡ event_count self.now }
+        ensures there { result ≤ length self.now.write_lists }
+        ensures right { (a : ℕ) → a < result → HasWriteList self.now a }
+        ensures last { result < length self.now.write_lists → ¬ HasWriteList self.now result }
+        ensures placed { ArePlacedBelow self.now result slots.new }
     {
-        let mut marks = vec![in alloc; false; self.len()]?;
-        let once = self.first_lists_once(&mut marks);
-        Ok(self.first_lists_whole(&marks, once))
+        let once = self.place_lists(slots);
+        self.first_lists_whole(slots, once)
+    }
+
+    /// The least address whose write list does not have each of its writes once and nothing else; where there is none,
+    /// each write gets its place.
+    pub(crate) fn first_without_list(&self, slots: &mut [Slot]) -> Option<Addr>
+        requires within { IsWithinLimits Long self.now }
+        requires numbered { AreNumbered self.now slots.old }
+        ensures size { length slots.new ≡ event_count self.now }
+        ensures least { MatchOption result (((a : ℕ) → HasWriteList self.now a) × ArePlaced self.now slots.new)
+            (λ a. IsLeastWithout (HasWriteList self.now) a) }
+    {
+        let right = self.first_lists_right(slots);
+        if right < self.writes().len() {
+            return Some(right as Addr);
+        }
+        None
     }
 }

@@ -2,8 +2,10 @@
 
 use crate::event::Event;
 use crate::fault::RecError;
+use crate::numbered::Numbered;
 use crate::parts::RecordingParts;
 use crate::size::RecordingSize;
+use crate::slots::{PlaceRoom, Slot, WritePlace};
 use common::{Addr, CoreId, EventId, OutOfMemory};
 use std::alloc::Global;
 use std::marker::Model;
@@ -13,37 +15,73 @@ use std::marker::Model;
 #[derive(Drop)]
 pub struct Recording {
     parts: RecordingParts,
+    slots: Vec<Slot>,
 }
 
 impl Model for Recording {
     ghost use Rattle.recording.specs.Execution.{Execution};
+    ghost use Rattle.recording.specs.Listed.{ArePlaced};
     ghost use Rattle.recording.specs.Recording.{IsRecording};
 
     ghost Value = { Execution };
 
     ghost view = { λ r. r.parts };
 
-    ghost invariant = { λ r. IsRecording r.parts };
+    ghost invariant = { λ r. IsRecording r.parts × ArePlaced r.parts r.slots.items };
 }
 
 impl Recording {
-    ghost use Rattle.std.specs.Prelude.{◌≡◌, ◌≤◌, ◌<◌, map, ◌↔◌, MatchOption, length, IsOk};
+    ghost use Rattle.std.specs.Prelude.{◌≡◌, ◌≤◌, ◌<◌, ℕ, map, ◌↔◌, MatchOption, length, IsOk};
     ghost use Rattle.std.specs.Prelude.{IfOk, IfErr};
-    ghost use Rattle.recording.specs.Execution.{event_count, event_at, core_of, initial_value, write_list};
+    ghost use Rattle.recording.specs.Execution.{event_count, event_at, core_of, initial_value, write_list, Writes};
+    ghost use Rattle.recording.specs.WritePlace.{IsWritePlace};
     ghost use Rattle.recording.specs.Recording.{executed, IsRecording, IsRecordingWithin};
     ghost use Rattle.recording.specs.Refusals.{IsRefusal};
 
     /// The recording of these events, write lists and initial values, which have to be one (`from_parts`
-    /// tests it).
-    pub fn new(cores: Vec<Vec<Event>>, writes: Vec<Vec<EventId>>, init: Vec<u32>) -> Recording
+    /// tests it). Fails only if out of memory.
+    pub fn new(
+        alloc: Global,
+        cores: Vec<Vec<Event>>,
+        writes: Vec<Vec<EventId>>,
+        init: Vec<u32>,
+    ) -> Result<Recording, OutOfMemory>
         requires { IsRecording
+            (executed (map (λ v. v.items) cores.items) (map (λ v. v.items) writes.items) init.items) }
+        ensures { IfOk result (λ r. r
+            ≡ executed (map (λ v. v.items) cores.items) (map (λ v. v.items) writes.items) init.items) }
+    {
+        let parts = RecordingParts::new(cores, writes, init);
+        let room = PlaceRoom::new(alloc, parts.len())?;
+        Ok(Recording::of_parts(room, parts))
+    }
+
+    /// What `new` answers, where there is room for as many events. It takes no memory.
+    pub fn in_room(
+        room: PlaceRoom,
+        cores: Vec<Vec<Event>>,
+        writes: Vec<Vec<EventId>>,
+        init: Vec<u32>,
+    ) -> Recording
+        requires fits { event_count
+            (executed (map (λ v. v.items) cores.items) (map (λ v. v.items) writes.items) init.items) ≤ room }
+        requires recording { IsRecording
             (executed (map (λ v. v.items) cores.items) (map (λ v. v.items) writes.items) init.items) }
         ensures { result
             ≡ executed (map (λ v. v.items) cores.items) (map (λ v. v.items) writes.items) init.items }
     {
-        Recording {
-            parts: RecordingParts::new(cores, writes, init),
-        }
+        Recording::of_parts(room, RecordingParts::new(cores, writes, init))
+    }
+
+    /// The recording of these parts.
+    fn of_parts(room: PlaceRoom, parts: RecordingParts) -> Recording
+        requires fits { event_count parts ≤ room }
+        requires recording { IsRecording parts }
+        ensures { result ≡ parts }
+    {
+        let mut slots = Numbered::new(room, &parts).into_slots();
+        let _refused = parts.first_without_list(&mut slots);
+        Recording { parts, slots }
     }
 
     /// The recording of a size of these events, write lists and initial values, or the first refusal: of the
@@ -65,9 +103,9 @@ impl Recording {
             (executed (map (λ v. v.items) cores.items) (map (λ v. v.items) writes.items) init.items) e)) }
     {
         let parts = RecordingParts::new(cores, writes, init);
-        match parts.refusal(alloc, size)? {
-            Some(refusal) => Ok(Err(refusal)),
-            None => Ok(Ok(Recording { parts })),
+        match parts.placed(alloc, size)? {
+            Ok(slots) => Ok(Ok(Recording { parts, slots })),
+            Err(refusal) => Ok(Err(refusal)),
         }
     }
 
@@ -129,6 +167,16 @@ impl Recording {
         ensures { result.now ≡ write_list self.now address }
     {
         self.parts.write_list(address)
+    }
+
+    /// Where a write stands in the write list of its address. Of an event that does not write it says nothing.
+    pub fn write_place(&self, number: EventId) -> WritePlace
+        ensures { (a : ℕ) → Writes self.now number a → IsWritePlace (write_list self.now a) number result }
+    {
+        match self.slots.get(number as usize) {
+            Some(Slot::Placed(place)) => *place,
+            _ => WritePlace { place: 0, next: 0 },
+        }
     }
 
     /// The initial value of an address; 0 where there is no such address.

@@ -5,18 +5,18 @@ use crate::numbered::Numbered;
 use crate::parts::RecordingParts;
 use crate::rules::ReadFault;
 use crate::size::RecordingSize;
-use common::{Addr, EventId, OutOfMemory};
+use crate::slots::{PlaceRoom, Slot};
+use common::{EventId, OutOfMemory};
 use std::alloc::Global;
 
 impl<'p> Numbered<'p> {
-    ghost use Rattle.std.specs.Prelude.{◌↔◌, ◌≤◌, ℕ, IsTrue, IfOk, MatchOption};
+    ghost use Rattle.std.specs.Prelude.{◌↔◌, ◌≤◌, ℕ, IsTrue, MatchOption};
     ghost use Rattle.common.specs.declared.limits.TheConstants.{MAX_RECORDED_EVENTS};
     ghost use Rattle.recording.specs.declared.size.RecordingSize.{RecordingSize};
-    ghost use Rattle.recording.specs.declared.size.RecordingSize.TheVariants.{Long};
     ghost use Rattle.recording.specs.Execution.{event_count};
-    ghost use Rattle.recording.specs.Recording.{IsRecordingWithin, IsWithinLimits};
+    ghost use Rattle.recording.specs.Recording.{IsWithinLimits};
     ghost use Rattle.recording.specs.Listed.{AreEventsRight, HasLists, HasSizes};
-    ghost use Rattle.recording.specs.Refusals.{HasWriteList, IsLeastWithout, IsRefusal};
+    ghost use Rattle.recording.specs.Refusals.{HasSource, HasValue, IsRefusal};
 
     /// Whether they have no more cores, events and addresses than a size allows, and an initial value for each address.
     fn has_sizes(&self, size: RecordingSize) -> bool
@@ -70,58 +70,46 @@ impl<'p> Numbered<'p> {
         }
     }
 
-    /// The least address whose write list does not have each of its writes once and nothing else.
-    fn first_without_list(&self, alloc: Global) -> Result<Option<Addr>, OutOfMemory>
-        requires { IsWithinLimits Long self.now }
-        ensures { IfOk result (λ r. MatchOption r ((a : ℕ) → HasWriteList self.now a)
-            (λ a. IsLeastWithout (HasWriteList self.now) a)) }
-    {
-        let right = self.first_lists_right(alloc)?;
-        if right < self.parts().writes().len() {
-            return Ok(Some(right as Addr));
-        }
-        Ok(None)
-    }
-
-    /// Why they are no recording, as `RecordingParts::refusal` has it.
-    fn first_refusal(
-        &self,
-        alloc: Global,
-        size: RecordingSize,
-    ) -> Result<Option<RecError>, OutOfMemory>
+    /// Why they are no recording, but for their write lists.
+    fn wrong_part(&self, size: RecordingSize) -> Option<RecError>
         requires { event_count self.now ≤ MAX_RECORDED_EVENTS }
-        ensures { IfOk result (λ r. MatchOption r (IsRecordingWithin size self.now) (λ e. IsRefusal size self.now e)) }
+        ensures { MatchOption result (IsWithinLimits size self.now × ((e : ℕ) → HasSource self.now e)
+            × ((e : ℕ) → HasValue self.now e)) (λ e. IsRefusal size self.now e) }
     {
         if !self.has_sizes(size) {
-            return Ok(Some(RecError::Limits));
+            return Some(RecError::Limits);
         }
-        if let Some(refusal) = self.wrong_event() {
-            return Ok(Some(refusal));
-        }
-        if let Some(address) = self.first_without_list(alloc)? {
-            return Ok(Some(RecError::WriteList(address)));
-        }
-        Ok(None)
+        self.wrong_event()
     }
 }
 
 impl RecordingParts {
-    ghost use Rattle.std.specs.Prelude.{IfOk, MatchOption};
+    ghost use Rattle.std.specs.Prelude.{IfErr, IfOk};
+    ghost use Rattle.recording.specs.Listed.{ArePlaced};
     ghost use Rattle.recording.specs.Recording.{IsRecordingWithin};
     ghost use Rattle.recording.specs.Refusals.{IsRefusal};
 
-    /// Why they are no recording of a size: what is refused first.
-    pub(crate) fn refusal(
+    /// The places of their writes, where they are a recording of a size, or else what is refused first.
+    pub(crate) fn placed(
         &self,
         alloc: Global,
         size: RecordingSize,
-    ) -> Result<Option<RecError>, OutOfMemory>
-        ensures { IfOk result (λ r. MatchOption r (IsRecordingWithin size self.now) (λ e. IsRefusal size self.now e)) }
+    ) -> Result<Result<Vec<Slot>, RecError>, OutOfMemory>
+        ensures ok { IfOk result (λ r. IfOk r (λ slots. IsRecordingWithin size self.now
+            × ArePlaced self.now slots.items)) }
+        ensures err { IfOk result (λ r. IfErr r (λ e. IsRefusal size self.now e)) }
     {
-        let Some(_) = self.count() else {
-            return Ok(Some(RecError::Limits));
+        let Some(count) = self.count() else {
+            return Ok(Err(RecError::Limits));
         };
-        let numbered = Numbered::new(alloc, self)?;
-        numbered.first_refusal(alloc, size)
+        let numbered = Numbered::new(PlaceRoom::new(alloc, count)?, self);
+        if let Some(refusal) = numbered.wrong_part(size) {
+            return Ok(Err(refusal));
+        }
+        let mut slots = numbered.into_slots();
+        match self.first_without_list(&mut slots) {
+            Some(address) => Ok(Err(RecError::WriteList(address))),
+            None => Ok(Ok(slots)),
+        }
     }
 }

@@ -86,5 +86,5 @@ pub(crate) fn prune(
         writes.push(Vec::from_slice(alloc, list)?)?;
     }
     let init = Vec::from_slice(alloc, recording.init())?;
-    Ok(Recording::new(cores, writes, init))
+    Recording::new(alloc, cores, writes, init)
 }

@@ -9,8 +9,8 @@ use Rattle.values.specs.Values.{IsCompletion}
 use Rattle.completion.proofs.Made.{completion_made}
 use Rattle.completion.proofs.completing.recording_after.Goals as goal
 
-pub new-recording-requires : goal.new-recording-requires
-new-recording-requires c =
+pub new-requires : goal.new-requires
+new-requires c =
     let x : Execution = executed (map (λ (l : Vec Event Global). l.items) c.in_ok-cores.cores.items)
     (map (λ (l : Vec ℕ Global). l.items) c.in_ok-writes.writes.items) c.in_ok-init.init.items in
     let made : IsCompletion c.args.values.now x c.in_ok-order.field-0.order.items =
@@ -31,4 +31,4 @@ returns c limit =
     c.in_ok-cores.ensures.rest (c.in_ok-init.ensures.items ∙ c.init.ensures) c.in_ok-cores.ensures.sources
     (length-map c.in_ok-writes.writes.items (λ (l : Vec ℕ Global). l.items) ∙ c.in_ok-writes.ensures.count)
     c.in_ok-writes.ensures.lists in
-    subst (λ (z : Execution). IsCompletion c.args.values.now z c.in_ok-order.field-0.order.items) (sym c.new-recording.ensures) made
+    subst (λ (z : Execution). IsCompletion c.args.values.now z c.in_ok-order.field-0.order.items) (sym c.in_ok-recording.ensures) made

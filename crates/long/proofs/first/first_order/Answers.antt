@@ -12,10 +12,9 @@ use Rattle.long.proofs.first.first_order.Goals as goal
 pub returns-in-Ordered : goal.returns-in-Ordered
 returns-in-Ordered c =
     let x = c.args.recording.now in
-    let same : c.in_ok-places.places ≡ x = c.in_ok-places.ensures ∙ c.in_ok-writes.ensures in
-    let none : HasNoOverlook x = subst (λ (y : Execution). HasNoOverlook y) c.in_ok-writes.ensures
-    (subst (λ (o : Option (ℕ × ℕ)). MatchOption o (HasNoOverlook c.in_ok-writes.writes)
-    (λ p. IsLeastOverlook c.in_ok-writes.writes p.0 p.1)) c.in_default.is c.in_ok-load.ensures) in
+    let same : c.in_ok-places.places ≡ x = c.in_ok-places.ensures in
+    let none : HasNoOverlook x = subst (λ (o : Option (ℕ × ℕ)). MatchOption o (HasNoOverlook x)
+    (λ p. IsLeastOverlook x p.0 p.1)) c.in_default.is c.in_ok-load.ensures in
     let sorted : IsSorted x (Ordered c.in-Ordered.order) =
     subst (λ (s : Sorted). IsSorted x s) c.in-Ordered.is
     (subst (λ (y : Execution). HasNoOverlook y → IsSorted y c.in_ok-order.field-0) same c.in_ok-order.ensures none) in
@@ -32,10 +31,9 @@ returns-in-Ordered c =
 pub returns : goal.returns
 returns c =
     let x = c.args.recording.now in
-    let same : c.in_ok-places.places ≡ x = c.in_ok-places.ensures ∙ c.in_ok-writes.ensures in
-    let none : HasNoOverlook x = subst (λ (y : Execution). HasNoOverlook y) c.in_ok-writes.ensures
-    (subst (λ (o : Option (ℕ × ℕ)). MatchOption o (HasNoOverlook c.in_ok-writes.writes)
-    (λ p. IsLeastOverlook c.in_ok-writes.writes p.0 p.1)) c.in_default.is c.in_ok-load.ensures) in
+    let same : c.in_ok-places.places ≡ x = c.in_ok-places.ensures in
+    let none : HasNoOverlook x = subst (λ (o : Option (ℕ × ℕ)). MatchOption o (HasNoOverlook x)
+    (λ p. IsLeastOverlook x p.0 p.1)) c.in_default.is c.in_ok-load.ensures in
     let left = subst (λ (s : Sorted). IsSorted x s) c.in-Blocked.is
     (subst (λ (y : Execution). HasNoOverlook y → IsSorted y c.in_ok-order.field-0) same c.in_ok-order.ensures none) in
     let cycle = left_cycle x c.in-Blocked.left left in (

@@ -6,13 +6,13 @@ use Rattle.long.proofs.newest.overlook_of_core.Goals as goal
 
 pub loop-place-init : goal.loop-place-init
 loop-place-init c = record {
-  newest = subst (λ (n : ℕ). AreNewest c.args.places.now n c.args.newest.now) (omega arith) c.requires.newest;
+  newest = subst (λ (n : ℕ). AreNewest c.args.recording.now n c.args.newest.now) (omega arith) c.requires.newest;
   none = λ k s low. c.requires.none k s (omega (arith, low));
 }
 
 pub returns-then-overlooks_newest-clause-found : goal.returns-then-overlooks_newest-clause-found
 returns-then-overlooks_newest-clause-found c =
-    let x = c.args.places.now in
+    let x = c.args.recording.now in
     let n = c.args.start + c.loop-place.place in
     record {
       overlooks = c.least_overlooked.ensures.there;
@@ -30,7 +30,7 @@ returns-then-overlooks_newest-clause-found c =
 
 pub loop-place-preserved : goal.loop-place-preserved
 loop-place-preserved c =
-    let x = c.args.places.now in
+    let x = c.args.recording.now in
     let n = c.args.start + c.loop-place.place in
     record {
       newest = subst (λ (m : ℕ). AreNewest x m c.take.new.newest) (omega arith) c.take.ensures;

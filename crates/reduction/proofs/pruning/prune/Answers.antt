@@ -1,4 +1,5 @@
 use Rattle.std.proofs.Common.{◌≡◌, ◌∙◌, ℕ, List, Vec, Global, ap, map, sym, subst, take_all}
+use Rattle.std.proofs.lemmas.Result.{IfOk-weaker}
 use Rattle.recording.specs.declared.event.Event.{Event}
 use Rattle.recording.specs.declared.size.RecordingSize.TheVariants.{Long}
 use Rattle.recording.specs.Execution.{Execution}
@@ -27,6 +28,7 @@ returns c =
     c.loop-list.invariant
     ∙ (ap (λ (l : List (Vec ℕ Global)). map inside l) (take_all c.loop-list.list-index c.writes-list-items.result.now
     c.loop-list-test.false) ∙ c.writes-list-items.ensures) in
-    c.new.ensures ∙ pruned_from x c.args.readers.now
+    IfOk-weaker c.new.result _ _ (λ whole is. is ∙ pruned_from x c.args.readers.now
     (map (λ (v : Vec Event Global). v.items) c.in_ok-cores.cores.items) (map inside c.loop-list.writes.items)
-    c.in_ok-init.init.items c.in_ok-cores.ensures lists (c.in_ok-init.ensures.items ∙ c.init.ensures.value)
+    c.in_ok-init.init.items c.in_ok-cores.ensures lists (c.in_ok-init.ensures.items ∙ c.init.ensures.value))
+    c.new.ensures

@@ -1,4 +1,5 @@
 use Rattle.std.proofs.Common.{◌≡◌, ◌∙◌, ℕ, List, Vec, Global, map, length, arith, ap, sym, subst}
+use Rattle.std.proofs.lemmas.Result.{IfOk-weaker}
 use Rattle.recording.specs.declared.event.Event.{Event}
 use Rattle.recording.specs.Execution.{Execution}
 use Rattle.recording.specs.Recording.{IsRecording, IsRecordingWithin}
@@ -49,14 +50,15 @@ returns-clause-rest c =
     (used_cores x c.args.kept.now)
     (ap (λ (l : List (Vec ℕ Global)). map (λ (v : Vec ℕ Global). v.items) l) c.deref-2.ensures.value
     ∙ c.in_ok-used.ensures) in
-    c.new.ensures ∙ restriction_from x c.args.kept.now
+    IfOk-weaker c.new.result _ _ (λ rest is. is ∙ restriction_from x c.args.kept.now
     c.deref.result.now c.deref-3.result.now c.deref-4.result.now
     (map (λ (v : Vec Event Global). v.items) c.in_ok-cores.cores.items)
     (map (λ (v : Vec ℕ Global). v.items) c.in_ok-writes.writes.items) c.in_ok-init.init.items
     (c.deref.ensures.value ∙ c.in_ok-addresses.ensures) (c.deref-3.ensures.value ∙ c.in_ok-addresses.ensures)
     (c.deref-4.ensures.value ∙ c.in_ok-addresses.ensures) cores c.in_ok-writes.ensures
-    c.in_ok-init.ensures
+    c.in_ok-init.ensures) c.new.ensures
 
 pub returns-clause-size : goal.returns-clause-size
-returns-clause-size c size is = subst (λ (y : Execution). IsRecordingWithin size y) (sym (returns-clause-rest c))
-    (restriction_recording c.args.recording.now c.args.kept.now c.requires is)
+returns-clause-size c = IfOk-weaker c.new.result _ _
+    (λ rest same size is. subst (λ (y : Execution). IsRecordingWithin size y) (sym same)
+    (restriction_recording c.args.recording.now c.args.kept.now c.requires is)) (returns-clause-rest c)

@@ -2,9 +2,13 @@ use Rattle.std.proofs.Common.{arith, sym, ap, ◌∙◌, subst, refl, ◌≡◌,
 use Rattle.std.proofs.lemmas.List.{length-map}
 use Rattle.common.specs.declared.limits.TheConstants.{MAX_ADDRESSES}
 use Rattle.machine.specs.Configuration.{BoundedItems, BlankSize, Configuration, state_from}
-use Rattle.machine.specs.State.{State, IsComplete}
+use Rattle.machine.specs.RecordedLaws.{count_is}
+use Rattle.machine.specs.State.{State, recorded, IsComplete}
 use Rattle.program_events.specs.ProgramOf.{IsProgramOf}
 use Rattle.recording.specs.declared.size.RecordingSize.TheVariants.{Short}
+use Rattle.program.specs.Parts.{op_count}
+use Rattle.recording.specs.Execution.{event_count}
+use Rattle.recording.specs.PlacedLaws.{placed_total}
 use Rattle.recording.specs.RecordingLaws.{recording_of_size}
 use Rattle.machine.proofs.InOrder.{IsInOrder}
 use Rattle.machine.proofs.Complete.{complete_is_tso}
@@ -13,8 +17,8 @@ use Rattle.machine.proofs.Recorded.{complete_recording}
 use Rattle.machine.proofs.MadeLemmas.{recorded_is_of}
 use Rattle.machine.proofs.machine.Machine.finish.Goals as goal
 
-pub new-requires : goal.new-requires
-new-requires c =
+pub in_room-requires-clause-recording : goal.in_room-requires-clause-recording
+in_room-requires-clause-recording c =
     let p = c.self.inside.program in
     let d = reached_data _ _ _ _ _ c.self.invariant.reached in
     let end = subst (λ (h : Configuration). IsComplete h.program.cores h.state) (sym c.self.view_is)
@@ -33,9 +37,9 @@ new-requires c =
     ∙ (sym c.self.invariant.sound.writes_length
     ∙ sym (length-map c.self.inside.writes.items (λ (l : BoundedItems ℕ). l.items))) in
     recording_of_size Short _ (rw (
-      c.fill-cores.ensures.cores,
-      c.fill-cores.ensures.writes,
-      c.fill-cores.ensures.initial,
+      c.fill-filled.ensures.cores,
+      c.fill-filled.ensures.writes,
+      c.fill-filled.ensures.initial,
       ap (λ (b : BlankSize). b.initial) c.self.invariant.blank_is,
       c.lists.ensures,
       c.as_slice.ensures.value,
@@ -62,10 +66,10 @@ returns-clause-short c =
     ∙ (sym c.self.invariant.sound.writes_length
     ∙ sym (length-map c.self.inside.writes.items (λ (l : BoundedItems ℕ). l.items))) in
     rw (
-      c.new.ensures,
-      c.fill-cores.ensures.cores,
-      c.fill-cores.ensures.writes,
-      c.fill-cores.ensures.initial,
+      c.in_room.ensures,
+      c.fill-filled.ensures.cores,
+      c.fill-filled.ensures.writes,
+      c.fill-filled.ensures.initial,
       ap (λ (b : BlankSize). b.initial) c.self.invariant.blank_is,
       c.lists.ensures,
       c.as_slice.ensures.value,
@@ -85,12 +89,29 @@ returns-clause-program c =
     let i = c.self.inside in
     let s : State = state_from i.program.init i.units.items i.buffers.items i.caches i.writes.items i.reads.items
     i.performed.items in
-    subst (λ (h : Configuration). IsProgramOf h.program c.new.result) c.self.view_is (rw (
-      c.new.ensures,
-      c.fill-cores.ensures.cores,
-      c.fill-cores.ensures.writes,
-      c.fill-cores.ensures.initial,
+    subst (λ (h : Configuration). IsProgramOf h.program c.in_room.result) c.self.view_is (rw (
+      c.in_room.ensures,
+      c.fill-filled.ensures.cores,
+      c.fill-filled.ensures.writes,
+      c.fill-filled.ensures.initial,
       ap (λ (b : BlankSize). b.initial) c.self.invariant.blank_is,
       c.lists.ensures,
       c.as_slice.ensures.value,
     ) (recorded_is_of i.program s refl))
+
+pub in_room-requires-clause-fits : goal.in_room-requires-clause-fits
+in_room-requires-clause-fits c =
+    let i = c.self.inside in
+    let s : State = state_from i.program.init i.units.items i.buffers.items i.caches i.writes.items i.reads.items
+    i.performed.items in
+    rw (
+      c.fill-filled.ensures.places,
+      c.fill-filled.ensures.cores,
+      c.fill-filled.ensures.writes,
+      c.fill-filled.ensures.initial,
+      ap (λ (b : BlankSize). b.initial) c.self.invariant.blank_is,
+      ap (λ (b : BlankSize). b.events) c.self.invariant.blank_is,
+      c.lists.ensures,
+      c.as_slice.ensures.value,
+    ) (let small : event_count (recorded i.program.cores s) ≤ op_count i.program.cores =
+    omega (arith, count_is i.program.cores s, placed_total 0 i.program.cores) in small)

@@ -4,9 +4,9 @@ use Rattle.recording.specs.Recording.{IsRecordingWithin}
 use Rattle.recording.proofs.Refused.{refused}
 use Rattle.recording.proofs.recording.Recording.from_parts.Goals as goal
 
-pub returns-in-Some-clause-exact : goal.returns-in-Some-clause-exact
-returns-in-Some-clause-exact c = (
+pub returns-in-Err-clause-exact : goal.returns-in-Err-clause-exact
+returns-in-Err-clause-exact c = (
   λ wrong. absurd cc,
-  λ is. absurd (refused c.new-parts.result c.in-Some.refusal (rw c.in-Some.is at c.in_ok-refusal.ensures)
+  λ is. absurd (refused c.new-parts.result c.in-Err.refusal (rw c.in-Err.is at c.in_ok-slots.ensures.err)
       (subst (λ (x : Execution). IsRecordingWithin c.args.size x) (sym c.new-parts.ensures) is)),
 )
