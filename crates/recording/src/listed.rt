@@ -63,7 +63,7 @@ impl RecordingParts {
     ghost use Rattle.common.specs.declared.limits.TheConstants.{MAX_RECORDED_EVENTS};
     ghost use Rattle.recording.specs.Execution.{event_count, write_list, Writes};
     ghost use Rattle.recording.specs.Order.{times};
-    ghost use Rattle.recording.specs.Listed.{is_marked, slot_at, AreSlots, AreNumbered, ArePlaced, ArePlacedBelow};
+    ghost use Rattle.recording.specs.Listed.{is_marked, slot_at, AreSlotsOf, AreNumbered, AreAllPlaced, ArePlacedBelow};
     ghost use Rattle.recording.specs.Listed.{IsPlaced, ListsEachWrite, ListsWritesOnce};
     ghost use Rattle.recording.specs.Recording.{IsWithinLimits};
     ghost use Rattle.recording.specs.declared.size.RecordingSize.TheVariants.{Long};
@@ -73,9 +73,9 @@ impl RecordingParts {
     /// the marked writes of the address, each with its place.
     fn lists_writes_once(&self, address: Addr, slots: &mut [Slot]) -> bool
         requires few_events { event_count self.now ≤ MAX_RECORDED_EVENTS }
-        requires slots { AreSlots self.now slots.old }
+        requires slots { AreSlotsOf self.now slots.old }
         requires unmarked { (e : ℕ) → Writes self.now e address → is_marked slots.old e ≡ false }
-        ensures slots { AreSlots self.now slots.new }
+        ensures slots { AreSlotsOf self.now slots.new }
         ensures once { IsTrue result ↔ ListsWritesOnce self.now address }
         ensures marked { IsTrue result → (e : ℕ) → Writes self.now e address
             → IsTrue (is_marked slots.new e) ↔ (0 < times (write_list self.now address) e) }
@@ -105,7 +105,7 @@ impl RecordingParts {
     fn place_lists(&self, slots: &mut [Slot]) -> usize
         requires within { IsWithinLimits Long self.now }
         requires numbered { AreNumbered self.now slots.old }
-        ensures slots { AreSlots self.now slots.new }
+        ensures slots { AreSlotsOf self.now slots.new }
         ensures there { result ≤ length self.now.write_lists }
         ensures once { (a : ℕ) → a < result → ListsWritesOnce self.now a }
         ensures last { result < length self.now.write_lists → ¬ ListsWritesOnce self.now result }
@@ -122,7 +122,7 @@ impl RecordingParts {
 
     /// How many of the first lists, as many of which have their places, have each write of their addresses.
     fn first_lists_whole(&self, slots: &[Slot], count: usize) -> usize
-        requires slots { AreSlots self.now slots.now }
+        requires slots { AreSlotsOf self.now slots.now }
         requires placed { ArePlacedBelow self.now count slots.now }
         ensures bound { result ≤ count }
         ensures whole { (a : ℕ) → a < result → ListsEachWrite self.now a }
@@ -152,7 +152,7 @@ impl RecordingParts {
         requires within { IsWithinLimits Long self.now }
         requires numbered { AreNumbered self.now slots.old }
         ensures size { length slots.new ≡ event_count self.now }
-        ensures least { MatchOption result (((a : ℕ) → HasWriteList self.now a) × ArePlaced self.now slots.new)
+        ensures least { MatchOption result (((a : ℕ) → HasWriteList self.now a) × AreAllPlaced self.now slots.new)
             (λ a. IsLeastWithout (HasWriteList self.now) a) }
     {
         let right = self.first_lists_right(slots);

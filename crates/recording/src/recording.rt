@@ -11,7 +11,8 @@ use std::alloc::Global;
 use std::marker::Model;
 
 /// A recording: the events of each core in program order, and for each address its writes in memory order
-/// and its initial value. It has no more cores, events and addresses than `RecordingSize::Long` says.
+/// and its initial value. It has no more cores, events and addresses than `RecordingSize::Long` says. It keeps
+/// where each write stands in its write list.
 #[derive(Drop)]
 pub struct Recording {
     parts: RecordingParts,
@@ -20,14 +21,14 @@ pub struct Recording {
 
 impl Model for Recording {
     ghost use Rattle.recording.specs.Execution.{Execution};
-    ghost use Rattle.recording.specs.Listed.{ArePlaced};
+    ghost use Rattle.recording.specs.Listed.{AreAllPlaced};
     ghost use Rattle.recording.specs.Recording.{IsRecording};
 
     ghost Value = { Execution };
 
     ghost view = { λ r. r.parts };
 
-    ghost invariant = { λ r. IsRecording r.parts × ArePlaced r.parts r.slots.items };
+    ghost invariant = { λ r. IsRecording r.parts × AreAllPlaced r.parts r.slots.items };
 }
 
 impl Recording {

@@ -85,7 +85,7 @@ impl<'p> Numbered<'p> {
 
 impl RecordingParts {
     ghost use Rattle.std.specs.Prelude.{IfErr, IfOk};
-    ghost use Rattle.recording.specs.Listed.{ArePlaced};
+    ghost use Rattle.recording.specs.Listed.{AreAllPlaced};
     ghost use Rattle.recording.specs.Recording.{IsRecordingWithin};
     ghost use Rattle.recording.specs.Refusals.{IsRefusal};
 
@@ -96,7 +96,7 @@ impl RecordingParts {
         size: RecordingSize,
     ) -> Result<Result<Vec<Slot>, RecError>, OutOfMemory>
         ensures ok { IfOk result (λ r. IfOk r (λ slots. IsRecordingWithin size self.now
-            × ArePlaced self.now slots.items)) }
+            × AreAllPlaced self.now slots.items)) }
         ensures err { IfOk result (λ r. IfErr r (λ e. IsRefusal size self.now e)) }
     {
         let Some(count) = self.count() else {

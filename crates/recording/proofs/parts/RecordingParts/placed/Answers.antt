@@ -1,6 +1,6 @@
 use Rattle.std.proofs.Common.{◌≡◌, ℕ, List, arith, subst, sym}
 use Rattle.recording.specs.Execution.{Execution, event_count}
-use Rattle.recording.specs.Listed.{ArePlaced}
+use Rattle.recording.specs.Listed.{AreAllPlaced}
 use Rattle.recording.specs.Recording.{IsWithinLimits}
 use Rattle.recording.specs.RecordingLaws.{within_of_size}
 use Rattle.recording.specs.Refusals.{HasSource, HasValue}
@@ -20,7 +20,7 @@ returns-in-None-clause-ok c =
     × ((e : ℕ) → HasValue x e)) c.new-numbered.ensures c.in_default-wrong_part.ensures in
     let lists = rw c.in-None.is at c.first_without_list.ensures.least in (
       recording c.args.self.now right.0 right.1 right.2 lists.0,
-      subst (λ (slots : List Slot). ArePlaced c.args.self.now slots)
+      subst (λ (slots : List Slot). AreAllPlaced c.args.self.now slots)
           (sym (written_over c.into_slots-slots.result.len c.first_without_list.new.slots
           c.into_slots-slots.result.items (omega (
             arith,
