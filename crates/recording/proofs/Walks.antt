@@ -1,15 +1,14 @@
 -- A walk over the events of all cores, one after the other, and the slots that it fills.
 use Rattle.std.proofs.Common.{◌≡◌, ◌<◌, ◌≤◌, ◌+◌, ◌-◌, ◌++◌, ℕ, inl, inr, List, [], false, ◌∷◌, length, get_or}
-use Rattle.std.proofs.Common.{map, arith, sym, ap, subst, ◌∙◌, Vec, Global}
+use Rattle.std.proofs.Common.{Bool, Option, map, arith, sym, ap, subst, ◌∙◌, Vec, Global}
 use Rattle.std.proofs.lemmas.Bool.{cases_lt}
 use Rattle.std.proofs.lemmas.List.{get_or_append_left, get_or_at, get_or_default, get_or_past, length-append}
 use Rattle.recording.specs.declared.event.Event.{Event}
 use Rattle.recording.specs.declared.event.Event.TheVariants.{F}
 use Rattle.recording.specs.Execution.{Execution, event_count, event_at}
 use Rattle.recording.specs.EventLaws.{event_past}
-use Rattle.recording.specs.declared.slots.Slot.{Slot}
-use Rattle.recording.specs.declared.slots.Slot.TheVariants.{Quiet}
-use Rattle.recording.specs.Listed.{is_marked, is_placed, slot_at, written, written_of, AreNumbered}
+use Rattle.recording.specs.declared.slots.PackedSlot.{PackedSlot}
+use Rattle.recording.specs.Listed.{is_marked, is_placed, low, quiet, slot_at, unpacked, written, written_of, AreNumbered}
 use Rattle.recording.proofs.Finds.{IsAfter, after_more, after_found, after_end, core_seen}
 
 -- core k has the events es
@@ -76,38 +75,47 @@ reached_end x k number past reached =
     let same : number + 0 ≡ number = omega arith in
     after_end x k number past (subst (λ (n : ℕ). IsAfter x.cores k 0 n) same (reached.after 0))
 
+-- what a slot says that its event writes
+abbrev said : PackedSlot → Option (ℕ × ℕ)
+said s = written_of (unpacked s)
+
+-- whether its event was met in a write list
+abbrev is_met : PackedSlot → Bool
+is_met s = is_placed (unpacked s)
+
 -- the slots have what the events before that place write, and none is marked
-pub record IsFilled (x : Execution) (k i : ℕ) (slots : List Slot) : Type 0 where
+pub record IsFilled (x : Execution) (k i : ℕ) (slots : List PackedSlot) : Type 0 where
   pub reached : IsReached x k i (length slots)
-  pub events : (e : ℕ) → e < length slots → written_of (slot_at slots e) ≡ written (event_at x e)
+  pub events : (e : ℕ) → e < length slots → written_of (slot_at slots e) ≡ low (written (event_at x e))
   pub unmarked : (e : ℕ) → e < length slots → is_marked slots e ≡ false
 
 -- one event more
-pub filled_next : (x : Execution) (k i : ℕ) (slots : List Slot) (es : List Event) (d : Event) (s : Slot)
-    → IsCore x k es → i < length es → written_of s ≡ written (get_or es i d) → is_placed s ≡ false → IsFilled x k i slots
+pub filled_next : (x : Execution) (k i : ℕ) (slots : List PackedSlot) (es : List Event) (d : Event) (s : PackedSlot)
+    → IsCore x k es → i < length es → written_of (unpacked s) ≡ low (written (get_or es i d))
+    → is_placed (unpacked s) ≡ false → IsFilled x k i slots
     → IsFilled x k (i + 1) (slots ++ s ∷ [])
 filled_next x k i slots es d s core here writes unmet filled =
     let all : length slots + 1 ≡ length (slots ++ s ∷ []) = omega (arith, length-append slots (s ∷ [])) in record {
       reached = subst (λ (n : ℕ). IsReached x k (i + 1) n) all
           (reached_next x k i (length slots) es core here filled.reached);
       events = λ e below. elim (cases_lt e (length slots)) [
-        | inl before ↦ ap written_of (get_or_append_left slots (s ∷ []) Quiet e before) ∙ filled.events e before
+        | inl before ↦ ap said (get_or_append_left slots (s ∷ []) quiet e before) ∙ filled.events e before
         | inr last ↦
             let same : length slots ≡ e = omega (arith, all, below, last) in
-            ap written_of (get_or_at slots s [] Quiet e same) ∙ writes
-            ∙ ap written (subst (λ (n : ℕ). get_or es i d ≡ event_at x n) same
+            ap said (get_or_at slots s [] quiet e same) ∙ writes
+            ∙ ap (λ (v : Event). low (written v)) (subst (λ (n : ℕ). get_or es i d ≡ event_at x n) same
             (sym (reached_event x k i (length slots) es d core here filled.reached).1))
       ];
       unmarked = λ e below. elim (cases_lt e (length slots)) [
-        | inl before ↦ ap is_placed (get_or_append_left slots (s ∷ []) Quiet e before) ∙ filled.unmarked e before
+        | inl before ↦ ap is_met (get_or_append_left slots (s ∷ []) quiet e before) ∙ filled.unmarked e before
         | inr last ↦
             let same : length slots ≡ e = omega (arith, all, below, last) in
-            ap is_placed (get_or_at slots s [] Quiet e same) ∙ unmet
+            ap is_met (get_or_at slots s [] quiet e same) ∙ unmet
       ];
     }
 
 -- one core more
-pub filled_core : (x : Execution) (k i : ℕ) (slots : List Slot) (es : List Event) → IsCore x k es
+pub filled_core : (x : Execution) (k i : ℕ) (slots : List PackedSlot) (es : List Event) → IsCore x k es
     → length es ≤ i → IsFilled x k i slots → IsFilled x (k + 1) 0 slots
 filled_core x k i slots es core past filled = record {
   reached = reached_core x k i (length slots) es core past filled.reached;
@@ -116,18 +124,18 @@ filled_core x k i slots es core past filled = record {
 }
 
 -- with all cores each event has at its number what it writes
-pub filled_all : (x : Execution) (k : ℕ) (slots : List Slot) → length x.cores ≤ k
+pub filled_all : (x : Execution) (k : ℕ) (slots : List PackedSlot) → length x.cores ≤ k
     → IsFilled x k 0 slots → AreNumbered x slots
 filled_all x k slots past filled =
     let all : length slots ≡ event_count x = reached_end x k (length slots) past filled.reached in record {
       count = all;
       events = λ e. elim (cases_lt e (length slots)) [
         | inl below ↦ filled.events e below
-        | inr above ↦ ap written_of (get_or_past slots e Quiet above)
-            ∙ sym (ap written (event_past x e (omega (arith, all, above))))
+        | inr above ↦ ap said (get_or_past slots e quiet above)
+            ∙ sym (ap (λ (v : Event). low (written v)) (event_past x e (omega (arith, all, above))))
       ];
       unmarked = λ e. elim (cases_lt e (length slots)) [
         | inl below ↦ filled.unmarked e below
-        | inr above ↦ ap is_placed (get_or_past slots e Quiet above)
+        | inr above ↦ ap is_met (get_or_past slots e quiet above)
       ];
     }

@@ -6,26 +6,29 @@ ghost use Rattle.recording.specs.declared.slots.Slot.TheVariants.{Written};
 
 use crate::lists::item_or;
 use crate::parts::RecordingParts;
-use crate::slots::{Slot, WritePlace};
+use crate::slots::{PackedSlot, Slot, WritePlace};
 use common::{Addr, EventId};
 
 /// Whether an event writes an address and was not met in a write list.
-fn is_unmet(slots: &[Slot], number: EventId, address: Addr) -> bool
+fn is_unmet(slots: &[PackedSlot], number: EventId, address: Addr) -> bool
     ensures { IsTrue result ↔ ((w : ℕ) × (slot_at slots.now number ≡ Written address w)) }
 {
-    match slots.get(number as usize) {
-        Some(Slot::Written(written, _)) => *written == address,
+    let Some(slot) = slots.get(number as usize) else {
+        return false;
+    };
+    match slot.slot() {
+        Slot::Written(written, _) => written == address,
         _ => false,
     }
 }
 
 /// Whether each event that writes was met in a write list. No step of its loop depends on what an event does.
-fn are_all_met(slots: &[Slot]) -> bool
+fn are_all_met(slots: &[PackedSlot]) -> bool
     ensures { IsTrue result → (e a w : ℕ) → ¬ (slot_at slots.now e ≡ Written a w) }
 {
     let mut all = true;
     for slot in slots {
-        all = all & !matches!(slot, Slot::Written(..));
+        all = all & !matches!(slot.slot(), Slot::Written(..));
     }
     all
 }
@@ -43,7 +46,7 @@ fn unmet_below(slot: Slot, count: usize) -> usize
 }
 
 /// The least address below a count that an event writes that was not met in a write list; else the count.
-fn first_unmet(slots: &[Slot], count: usize) -> usize
+fn first_unmet(slots: &[PackedSlot], count: usize) -> usize
     ensures bound { result ≤ count }
     ensures least { (e a w : ℕ) → slot_at slots.now e ≡ Written a w → result ≤ a }
     ensures unmet { result < count → (e w : ℕ) × (slot_at slots.now e ≡ Written result w) }
@@ -53,14 +56,14 @@ fn first_unmet(slots: &[Slot], count: usize) -> usize
     }
     let mut first = count;
     for slot in slots {
-        first = unmet_below(*slot, first);
+        first = unmet_below(slot.slot(), first);
     }
     first
 }
 
 impl RecordingParts {
     ghost use Rattle.std.specs.Prelude.{◌≡◌, ◌↔◌, ◌<◌, ◌≤◌, ℕ, IsTrue, MatchOption, false, length};
-    ghost use Rattle.common.specs.declared.limits.TheConstants.{MAX_RECORDED_EVENTS};
+    ghost use Rattle.common.specs.declared.limits.TheConstants.{MAX_RECORDED_ADDRESSES, MAX_RECORDED_EVENTS};
     ghost use Rattle.recording.specs.Execution.{event_count, write_list, Writes};
     ghost use Rattle.recording.specs.Order.{times};
     ghost use Rattle.recording.specs.Listed.{is_marked, slot_at, AreSlotsOf, AreNumbered, AreAllPlaced, ArePlacedBelow};
@@ -71,8 +74,9 @@ impl RecordingParts {
 
     /// Whether each number in the write list of an address writes it and stands once. Then its numbers are
     /// the marked writes of the address, each with its place.
-    fn lists_writes_once(&self, address: Addr, slots: &mut [Slot]) -> bool
+    fn lists_writes_once(&self, address: Addr, slots: &mut [PackedSlot]) -> bool
         requires few_events { event_count self.now ≤ MAX_RECORDED_EVENTS }
+        requires address { address < MAX_RECORDED_ADDRESSES }
         requires slots { AreSlotsOf self.now slots.old }
         requires unmarked { (e : ℕ) → Writes self.now e address → is_marked slots.old e ≡ false }
         ensures slots { AreSlotsOf self.now slots.new }
@@ -92,7 +96,7 @@ impl RecordingParts {
             if !is_unmet(slots, number, address) {
                 return false;
             }
-            slots[number as usize] = Slot::Placed(WritePlace {
+            slots[number as usize] = PackedSlot::placed(WritePlace {
                 place: i as u32,
                 next: item_or(list, i + 1, number),
             });
@@ -102,7 +106,7 @@ impl RecordingParts {
 
     /// How many write lists from the first have writes of their addresses alone, each once. What stands in
     /// them gets its place.
-    fn place_lists(&self, slots: &mut [Slot]) -> usize
+    fn place_lists(&self, slots: &mut [PackedSlot]) -> usize
         requires within { IsWithinLimits Long self.now }
         requires numbered { AreNumbered self.now slots.old }
         ensures slots { AreSlotsOf self.now slots.new }
@@ -121,8 +125,9 @@ impl RecordingParts {
     }
 
     /// How many of the first lists, as many of which have their places, have each write of their addresses.
-    fn first_lists_whole(&self, slots: &[Slot], count: usize) -> usize
+    fn first_lists_whole(&self, slots: &[PackedSlot], count: usize) -> usize
         requires slots { AreSlotsOf self.now slots.now }
+        requires few_addresses { count ≤ MAX_RECORDED_ADDRESSES }
         requires placed { ArePlacedBelow self.now count slots.now }
         ensures bound { result ≤ count }
         ensures whole { (a : ℕ) → a < result → ListsEachWrite self.now a }
@@ -133,7 +138,7 @@ impl RecordingParts {
 
     /// How many write lists from the first have each write of their addresses once and nothing else. What stands in
     /// them gets its place.
-    fn first_lists_right(&self, slots: &mut [Slot]) -> usize
+    fn first_lists_right(&self, slots: &mut [PackedSlot]) -> usize
         requires within { IsWithinLimits Long self.now }
         requires numbered { AreNumbered self.now slots.old }
         ensures size { length slots.new ≡ event_count self.now }
@@ -148,7 +153,7 @@ impl RecordingParts {
 
     /// The least address whose write list does not have each of its writes once and nothing else; where there is none,
     /// each write gets its place.
-    pub(crate) fn first_without_list(&self, slots: &mut [Slot]) -> Option<Addr>
+    pub(crate) fn first_without_list(&self, slots: &mut [PackedSlot]) -> Option<Addr>
         requires within { IsWithinLimits Long self.now }
         requires numbered { AreNumbered self.now slots.old }
         ensures size { length slots.new ≡ event_count self.now }

@@ -5,7 +5,7 @@ use crate::fault::RecError;
 use crate::numbered::Numbered;
 use crate::parts::RecordingParts;
 use crate::size::RecordingSize;
-use crate::slots::{PlaceRoom, Slot, WritePlace};
+use crate::slots::{PackedSlot, PlaceRoom, Slot, WritePlace};
 use common::{Addr, CoreId, EventId, OutOfMemory};
 use std::alloc::Global;
 use std::marker::Model;
@@ -16,7 +16,7 @@ use std::marker::Model;
 #[derive(Drop)]
 pub struct Recording {
     parts: RecordingParts,
-    slots: Vec<Slot>,
+    slots: Vec<PackedSlot>,
 }
 
 impl Model for Recording {
@@ -174,9 +174,13 @@ impl Recording {
     pub fn write_place(&self, number: EventId) -> WritePlace
         ensures { (a : ℕ) → Writes self.now number a → IsWritePlace (write_list self.now a) number result }
     {
-        match self.slots.get(number as usize) {
-            Some(Slot::Placed(place)) => *place,
-            _ => WritePlace { place: 0, next: 0 },
+        let nowhere = WritePlace { place: 0, next: 0 };
+        let Some(slot) = self.slots.get(number as usize) else {
+            return nowhere;
+        };
+        match slot.slot() {
+            Slot::Placed(place) => place,
+            _ => nowhere,
         }
     }
 

@@ -5,13 +5,13 @@ use crate::numbered::Numbered;
 use crate::parts::RecordingParts;
 use crate::rules::ReadFault;
 use crate::size::RecordingSize;
-use crate::slots::{PlaceRoom, Slot};
+use crate::slots::{PackedSlot, PlaceRoom};
 use common::{EventId, OutOfMemory};
 use std::alloc::Global;
 
 impl<'p> Numbered<'p> {
-    ghost use Rattle.std.specs.Prelude.{◌↔◌, ◌≤◌, ℕ, IsTrue, MatchOption};
-    ghost use Rattle.common.specs.declared.limits.TheConstants.{MAX_RECORDED_EVENTS};
+    ghost use Rattle.std.specs.Prelude.{◌↔◌, ◌≤◌, ℕ, IsTrue, MatchOption, length};
+    ghost use Rattle.common.specs.declared.limits.TheConstants.{MAX_RECORDED_ADDRESSES, MAX_RECORDED_EVENTS};
     ghost use Rattle.recording.specs.declared.size.RecordingSize.{RecordingSize};
     ghost use Rattle.recording.specs.Execution.{event_count};
     ghost use Rattle.recording.specs.Recording.{IsWithinLimits};
@@ -40,7 +40,8 @@ impl<'p> Numbered<'p> {
     /// source is no write to the address that it reads; where there is none, the least whose value read is not that of
     /// its source.
     fn wrong_event(&self) -> Option<RecError>
-        requires { event_count self.now ≤ MAX_RECORDED_EVENTS }
+        requires events { event_count self.now ≤ MAX_RECORDED_EVENTS }
+        requires addresses { length self.now.write_lists ≤ MAX_RECORDED_ADDRESSES }
         ensures { MatchOption result (AreEventsRight self.now)
             (λ e. (size : RecordingSize) → (HasLists self.now → IsWithinLimits size self.now)
             → IsRefusal size self.now e) }
@@ -94,7 +95,7 @@ impl RecordingParts {
         &self,
         alloc: Global,
         size: RecordingSize,
-    ) -> Result<Result<Vec<Slot>, RecError>, OutOfMemory>
+    ) -> Result<Result<Vec<PackedSlot>, RecError>, OutOfMemory>
         ensures ok { IfOk result (λ r. IfOk r (λ slots. IsRecordingWithin size self.now
             × AreAllPlaced self.now slots.items)) }
         ensures err { IfOk result (λ r. IfErr r (λ e. IsRefusal size self.now e)) }

@@ -97,6 +97,7 @@ impl<'a> Cursor<'a> {
 
     /// Takes the number of 64 bits that stands next, if one does; else it may have taken digits. A number that begins
     /// with 0 is 0 alone.
+    #[inline(always)]
     pub fn number(&mut self) -> Option<u64>
         ensures found { IfSome result (λ n. self.old ≡ decimal n ++ self.new) }
         ensures only { (n b : ℕ) (more : List ℕ) → n < 2 ^ 64 → is_digit b ≡ false

@@ -67,6 +67,7 @@ pub(crate) fn take_digits(rest: &mut Cursor<'_>) -> Option<u64>
 }
 
 /// The natural number that digits alone write.
+#[inline(always)]
 pub(crate) fn take_natural(rest: &mut Cursor<'_>) -> Option<u64>
     ensures { IfSome result (λ n. (depth : ℕ)
         → GivesValue natural depth (value_tokens rest.old) n (later_tokens rest.new)) }
@@ -86,6 +87,7 @@ fn clip_number(n: u64) -> u32
 }
 
 /// The number of an event or of an address; the greatest of 32 bits where it is greater.
+#[inline(always)]
 pub(crate) fn take_number(rest: &mut Cursor<'_>) -> Option<u32>
     ensures { IfSome result (λ n. (depth : ℕ)
         → GivesValue clipped_number depth (value_tokens rest.old) n (later_tokens rest.new)) }

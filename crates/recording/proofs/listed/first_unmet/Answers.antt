@@ -1,8 +1,7 @@
 use Rattle.std.proofs.Common.{◌≡◌, inl, inr, arith, ap, sym, ◌∙◌}
 use Rattle.std.proofs.lemmas.Bool.{cases_lt}
 use Rattle.std.proofs.lemmas.List.{get_or_default}
-use Rattle.recording.specs.declared.slots.Slot.TheVariants.{Quiet}
-use Rattle.recording.specs.Listed.{slot_at}
+use Rattle.recording.specs.Listed.{quiet, slot_at, unpacked}
 use Rattle.recording.proofs.listed.first_unmet.Goals as goal
 
 pub loop-slot-preserved : goal.loop-slot-preserved
@@ -15,13 +14,13 @@ loop-slot-preserved c =
         | inl before ↦ omega (arith, now.bound, was.least e a w before is)
         | inr last ↦
             let same : i ≡ e = omega arith in
-            now.least a w (get_or_default c.args.slots.now i _ Quiet c.loop-slot-test.true
+            now.least a w (c.slot.ensures ∙ ap unpacked (get_or_default c.args.slots.now i _ quiet c.loop-slot-test.true)
             ∙ (ap (slot_at c.args.slots.now) same ∙ is))
       ];
       unmet = λ less. elim (cases_lt c.unmet_below-first.result c.loop-slot.first) [
         | inl fewer ↦
             let here = now.unmet fewer in
-            (i, here.0, sym (get_or_default c.args.slots.now i _ Quiet c.loop-slot-test.true) ∙ here.1)
+            (i, here.0, sym (c.slot.ensures ∙ ap unpacked (get_or_default c.args.slots.now i _ quiet c.loop-slot-test.true)) ∙ here.1)
         | inr more ↦
             let same : c.unmet_below-first.result ≡ c.loop-slot.first = omega (arith, more, now.bound) in
             rw same (was.unmet (omega (arith, less, same)))

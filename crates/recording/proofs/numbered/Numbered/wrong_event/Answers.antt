@@ -1,7 +1,8 @@
-use Rattle.std.proofs.Common.{◌≡◌, ◌∙◌, length, arith, refl, ap}
+use Rattle.std.proofs.Common.{◌≡◌, ◌∙◌, length, arith, inl, refl, ap}
 use borrow.Author.Count.{below_more}
 use Rattle.recording.specs.declared.event.Event.{Event}
 use Rattle.recording.specs.declared.event.Event.TheVariants.{F}
+use Rattle.recording.specs.Event.{read_address}
 use Rattle.recording.specs.Execution.{Execution, event_count}
 use Rattle.recording.specs.Listed.{HasListsOf}
 use Rattle.recording.proofs.Walks.{core_of_vector, reached_event, reached_next, reached_core, reached_end}
@@ -29,6 +30,15 @@ returns-then-not-has_lists_of c size limits within =
     let has = (c.if-not-has_lists_of.ensures c.loop-event.number (stands _)).1
     (λ a uses. within.addresses c.loop-event.number a uses) in
     absurd cc
+
+pub read_fault-requires : goal.read_fault-requires
+read_fault-requires c a reads =
+    let stands = (reached_event c.args.self.now c.loop-events.events-index c.loop-event.event-index
+    c.loop-event.number c.deref-event-items.result.now _ c.loop-event.invariant.core c.loop-event-test.true
+    c.loop-event.invariant.reached).1 in
+    let below = (c.if-not-has_lists_of.ensures c.loop-event.number stands).0 refl a
+    (inl (ap read_address stands ∙ reads)) in
+    omega (arith, below, c.requires.addresses)
 
 pub overflow_add-number : goal.overflow_add-number
 overflow_add-number c =

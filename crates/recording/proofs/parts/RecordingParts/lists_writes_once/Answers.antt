@@ -39,7 +39,7 @@ returns-then-not-is_unmet-clause-once c =
             absurd (walked_twice (λ e. Writes x e c.args.address) list c.args.slots.now c.loop-i.slots c.loop-i.i
             c.loop-i.invariant c.loop-i-test.true (all item stands).0 twice once)
         | inr unmet ↦ c.if-not-is_unmet.ensures.1
-            (unmarked_written x c.loop-i.slots are item c.args.address (all item stands).0 unmet)
+            (unmarked_written x c.loop-i.slots are item c.args.address (omega (arith, c.requires.address)) (all item stands).0 unmet)
       ],
     )
 
@@ -52,7 +52,7 @@ loop-i-preserved c =
     c.requires.slots c.loop-i.invariant in
     let value = c.if-not-is_unmet.ensures.0 refl in
     let unmet = written_unmarked x c.loop-i.slots are number c.args.address value.0 value.1 in
-    walk_more (λ e. Writes x e c.args.address) list c.args.slots.now c.loop-i.slots c.loop-i.i _
+    walk_more (λ e. Writes x e c.args.address) list c.args.slots.now c.loop-i.slots c.loop-i.i _ _ c.placed.ensures
     c.loop-i.invariant c.loop-i-test.true unmet.1
     (omega (arith, c.requires.slots.count, Writes-event x number c.args.address unmet.1))
     unmet.0 refl c.item_or.ensures

@@ -4,7 +4,7 @@ use Rattle.recording.specs.Listed.{AreAllPlaced}
 use Rattle.recording.specs.Recording.{IsWithinLimits}
 use Rattle.recording.specs.RecordingLaws.{within_of_size}
 use Rattle.recording.specs.Refusals.{HasSource, HasValue}
-use Rattle.recording.specs.declared.slots.Slot.{Slot}
+use Rattle.recording.specs.declared.slots.PackedSlot.{PackedSlot}
 use Rattle.recording.proofs.Refused.{recording}
 use Rattle.recording.proofs.WriteLists.{written_over}
 use Rattle.recording.proofs.parts.RecordingParts.placed.Goals as goal
@@ -20,7 +20,7 @@ returns-in-None-clause-ok c =
     × ((e : ℕ) → HasValue x e)) c.new-numbered.ensures c.in_default-wrong_part.ensures in
     let lists = rw c.in-None.is at c.first_without_list.ensures.least in (
       recording c.args.self.now right.0 right.1 right.2 lists.0,
-      subst (λ (slots : List Slot). AreAllPlaced c.args.self.now slots)
+      subst (λ (slots : List PackedSlot). AreAllPlaced c.args.self.now slots)
           (sym (written_over c.into_slots-slots.result.len c.first_without_list.new.slots
           c.into_slots-slots.result.items (omega (
             arith,
@@ -30,3 +30,9 @@ returns-in-None-clause-ok c =
           ))))
           lists.1,
     )
+
+pub returns-in-Some-first_without_list-clause-err : goal.returns-in-Some-first_without_list-clause-err
+returns-in-Some-first_without_list-clause-err c =
+    let right = subst (λ (x : Execution). IsWithinLimits c.args.size x × ((e : ℕ) → HasSource x e)
+    × ((e : ℕ) → HasValue x e)) c.new-numbered.ensures c.in_default-wrong_part.ensures in
+    (right.0, right.1, right.2, rw c.in-Some-first_without_list.is at c.first_without_list.ensures.least)
