@@ -14,13 +14,16 @@ loop-slot-preserved c =
         | inl before ↦ omega (arith, now.bound, was.least e a w before is)
         | inr last ↦
             let same : i ≡ e = omega arith in
-            now.least a w (c.slot.ensures ∙ ap unpacked (get_or_default c.args.slots.now i _ quiet c.loop-slot-test.true)
+            now.least a w (c.slot.ensures
+            ∙ ap unpacked (get_or_default c.args.slots.now i _ quiet c.loop-slot-test.true)
             ∙ (ap (slot_at c.args.slots.now) same ∙ is))
       ];
       unmet = λ less. elim (cases_lt c.unmet_below-first.result c.loop-slot.first) [
         | inl fewer ↦
             let here = now.unmet fewer in
-            (i, here.0, sym (c.slot.ensures ∙ ap unpacked (get_or_default c.args.slots.now i _ quiet c.loop-slot-test.true)) ∙ here.1)
+            let stands = c.slot.ensures
+            ∙ ap unpacked (get_or_default c.args.slots.now i _ quiet c.loop-slot-test.true) in
+            (i, here.0, sym stands ∙ here.1)
         | inr more ↦
             let same : c.unmet_below-first.result ≡ c.loop-slot.first = omega (arith, more, now.bound) in
             rw same (was.unmet (omega (arith, less, same)))

@@ -42,7 +42,8 @@ returns-then-written-address c e at has =
     ∙ sym c.source.ensures ∙ c.in-Some.is in
     let pair : ℕ × ℕ = (c.in-Some-written.written, c.in-Some-written.value) in
     let stands = writes_some (event_at c.args.self.now c.in-Some.source) pair
-    (low_is (written (event_at c.args.self.now c.in-Some.source)) pair (sym c.written.ensures ∙ c.in-Some-written.is)) in
+    (low_is (written (event_at c.args.self.now c.in-Some.source)) pair
+    (sym c.written.ensures ∙ c.in-Some-written.is)) in
     let writes = has c.in_ok-address.address c.in-Some.source reads from in
     let same : c.in-Some-written.written ≡ c.in_ok-address.address =
     let both = sym stands.0 ∙ writes in cc in
@@ -57,7 +58,8 @@ returns-then-value-value_read c e at =
     ∙ sym c.source.ensures ∙ c.in-Some.is in
     let pair : ℕ × ℕ = (c.in-Some-written.written, c.in-Some-written.value) in
     let stands = writes_some (event_at c.args.self.now c.in-Some.source) pair
-    (low_is (written (event_at c.args.self.now c.in-Some.source)) pair (sym c.written.ensures ∙ c.in-Some-written.is)) in
+    (low_is (written (event_at c.args.self.now c.in-Some.source)) pair
+    (sym c.written.ensures ∙ c.in-Some-written.is)) in
     let writes : Writes c.args.self.now c.in-Some.source c.in_ok-address.address =
     stands.0 ∙ ap (λ (a : ℕ). Some a) c.if-written-address.false in (
       source_written c.args.self.now e c.in_ok-address.address c.in-Some.source reads from writes,

@@ -39,7 +39,8 @@ returns-then-not-is_unmet-clause-once c =
             absurd (walked_twice (λ e. Writes x e c.args.address) list c.args.slots.now c.loop-i.slots c.loop-i.i
             c.loop-i.invariant c.loop-i-test.true (all item stands).0 twice once)
         | inr unmet ↦ c.if-not-is_unmet.ensures.1
-            (unmarked_written x c.loop-i.slots are item c.args.address (omega (arith, c.requires.address)) (all item stands).0 unmet)
+            (unmarked_written x c.loop-i.slots are item c.args.address (omega (arith, c.requires.address))
+            (all item stands).0 unmet)
       ],
     )
 
