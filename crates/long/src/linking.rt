@@ -122,15 +122,31 @@ impl Linked {
         Ok(Linked { list })
     }
 
-    /// Puts a pair, if it is forced: it is where that is known, else it is asked, which looks at both events.
+    /// Puts a pair that is forced.
     fn put_forced(
+        &mut self,
+        _places: &Places<'_>,
+        first: EventId,
+        second: EventId,
+    ) -> Result<(), OutOfMemory>
+        requires forced { Forced _places.now first second }
+        requires linked { IsLinked _places.now self.old }
+        ensures few { OnOk result (length self.new.list.items ≤ length self.old.list.items + 1) }
+        ensures linked { OnOk result (IsLinked _places.now self.new) }
+        ensures kept { OnOk result (KeepsPairs self.old self.new) }
+        ensures here { OnOk result (0 < times_listed self.new.list.items first second) }
+    {
+        self.list.push((first, second))?;
+        Ok(())
+    }
+
+    /// Puts a pair if it is forced, which looks at both events.
+    fn put_if_forced(
         &mut self,
         places: &Places<'_>,
         first: EventId,
         second: EventId,
-        known: bool,
     ) -> Result<(), OutOfMemory>
-        requires known { IsTrue known → Forced places.now first second }
         requires linked { IsLinked places.now self.old }
         ensures few { OnOk result (length self.new.list.items ≤ length self.old.list.items + 1) }
         ensures linked { OnOk result (IsLinked places.now self.new) }
@@ -139,14 +155,14 @@ impl Linked {
             → 0 < times_listed self.new.list.items first second) }
     {
         places.sound();
-        if known || places.forces(first, second) {
-            self.list.push((first, second))?;
+        if !places.forces(first, second) {
+            return Ok(());
         }
-        Ok(())
+        self.put_forced(places, first, second)
     }
 
     /// Puts the pair of an event and one that is earlier on its core, if memory order keeps it; any other pair as
-    /// `put_forced` does.
+    /// `put_if_forced` does.
     fn put_earlier(
         &mut self,
         places: &Places<'_>,
@@ -165,13 +181,12 @@ impl Linked {
     {
         places.sound();
         if !is_earlier(start, first, second) {
-            return self.put_forced(places, first, second, false);
+            return self.put_if_forced(places, first, second);
         }
-        if is_kept(places, first, second) {
-            self.put_forced(places, first, second, true)
-        } else {
-            Ok(())
+        if !is_kept(places, first, second) {
+            return Ok(());
         }
+        self.put_forced(places, first, second)
     }
 
     /// Does what `put_earlier` does, where the first event is a plain store.
@@ -221,7 +236,7 @@ impl Linked {
         if is_earlier(start, source, event) {
             return self.put_earlier(places, source, event, start);
         }
-        self.put_forced(places, source, event, true)
+        self.put_forced(places, source, event)
     }
 
     /// Puts the forced pairs of which an event is the second, but for those of writes that it is next to and of reads
@@ -265,7 +280,7 @@ impl Linked {
     {
         places.sound();
         match write_after(places, event) {
-            Some(write) => self.put_forced(places, event, write, true),
+            Some(write) => self.put_forced(places, event, write),
             None => Ok(()),
         }
     }
@@ -288,13 +303,13 @@ impl Linked {
             → 0 < times_listed self.new.list.items event w) }
     {
         places.sound();
-        match first_newer(places, event) {
-            Some(write) => {
-                let is_from_read = !is_earlier(start, write, event);
-                self.put_forced(places, event, write, is_from_read)
-            }
-            None => Ok(()),
+        let Some(write) = first_newer(places, event) else {
+            return Ok(());
+        };
+        if is_earlier(start, write, event) {
+            return self.put_if_forced(places, event, write);
         }
+        self.put_forced(places, event, write)
     }
 }
 

@@ -1,4 +1,4 @@
-use Rattle.std.proofs.Common.{◌≡◌, ◌<◌, ℕ, List, length, arith, ap, sym, subst, ◌∙◌}
+use Rattle.std.proofs.Common.{◌≡◌, ◌<◌, ℕ, List, length, arith, ap, sym, subst}
 use Rattle.recording.specs.Order.{Enumerates}
 use Rattle.recording.specs.Execution.{Execution, event_count}
 use Rattle.relations.specs.Consistency.{HasNoOverlook}

@@ -1,4 +1,4 @@
-use Rattle.std.proofs.Common.{◌≡◌, ℕ, Option, subst, ◌∙◌}
+use Rattle.std.proofs.Common.{◌≡◌, ℕ, Option, subst}
 use Rattle.std.specs.Prelude.{MatchOption}
 use Rattle.recording.specs.Execution.{Execution, event_count}
 use Rattle.relations.specs.Consistency.{HasNoOverlook}

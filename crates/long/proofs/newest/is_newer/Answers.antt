@@ -1,9 +1,8 @@
-use Rattle.std.proofs.Common.{◌<◌, length, arith, subst}
+use Rattle.std.proofs.Common.{◌<◌, length, arith}
 use Rattle.std.proofs.lemmas.Bool.{ltb-true, lt-ltb}
-use Rattle.recording.specs.Execution.{Execution, write_list}
+use Rattle.recording.specs.Execution.{write_list}
 use Rattle.recording.specs.Order.{place}
 use Rattle.recording.specs.OrderLaws.{place_in}
-use Rattle.recording.specs.Recording.{IsRecording}
 use Rattle.long.proofs.newest.is_newer.Goals as goal
 
 pub returns-in-Some : goal.returns-in-Some

@@ -4,8 +4,8 @@ use Rattle.long.proofs.linking.Linked.put_earlier.Goals as goal
 pub is_kept-requires : goal.is_kept-requires
 is_kept-requires c = (c.is_earlier.ensures c.args.places.now c.requires.start).0 c.if-not-is_earlier.false
 
-pub put_forced-requires-then-is_kept-clause-known : goal.put_forced-requires-then-is_kept-clause-known
-put_forced-requires-then-is_kept-clause-known c _ = c.is_kept.ensures.0 c.if-is_kept.true
+pub put_forced-requires-clause-forced : goal.put_forced-requires-clause-forced
+put_forced-requires-clause-forced c = c.is_kept.ensures.0 c.if-not-is_kept.false
 
-pub returns-else-is_kept-clause-here : goal.returns-else-is_kept-clause-here
-returns-else-is_kept-clause-here c forced = absurd (iff_false c.is_kept.ensures c.if-is_kept.false forced)
+pub returns-then-not-is_kept-clause-here : goal.returns-then-not-is_kept-clause-here
+returns-then-not-is_kept-clause-here c forced = absurd (iff_false c.is_kept.ensures c.if-not-is_kept.true forced)

@@ -6,8 +6,8 @@ use Rattle.long.specs.Rows.{times_listed}
 use Rattle.long.proofs.Steps.{source_forced}
 use Rattle.long.proofs.linking.Linked.put_source.Goals as goal
 
-pub put_forced-requires-clause-known : goal.put_forced-requires-clause-known
-put_forced-requires-clause-known c _ =
+pub put_forced-requires-clause-forced : goal.put_forced-requires-clause-forced
+put_forced-requires-clause-forced c =
     source_forced c.args.places.now c.in-Some.source c.args.event (sym c.source_of.ensures ∙ c.in-Some.is)
     (iff_false (c.is_earlier.ensures c.args.places.now c.requires.start) c.if-is_earlier.false)
 
@@ -36,5 +36,5 @@ returns-clause-source c =
     (λ put d is forced.
     let both : Some c.in-Some.source ≡ Some d = sym c.in-Some.is ∙ (c.source_of.ensures ∙ is) in
     let one : c.in-Some.source ≡ d = cc in
-    subst (λ (k : ℕ). 0 < times_listed new.list.items k e) one (put (subst (λ (k : ℕ). Forced x k e) (sym one) forced)))
+    subst (λ (k : ℕ). 0 < times_listed new.list.items k e) one put)
     c.put_forced.ensures.here
