@@ -26,7 +26,7 @@ pub fn with_member(
 
 /// The members of an object with one more, which is a text, in place of one with the same key. Fails only if out of
 /// memory.
-pub fn with_text(
+pub fn with_text_member(
     alloc: Global,
     members: Map<String, Value>,
     key: &str,

@@ -8,7 +8,7 @@ ghost use Rattle.recorder.specs.Written.{IsWordSource, IsFitting, AreFitting};
 ghost use Rattle.recorder.specs.Text.{list_data, members, read_members, event_data, values_of, data_of};
 
 use crate::items::{Events, Kind, Numbers, Values};
-use crate::object::{source_value, with_member, with_text};
+use crate::object::{source_value, with_member, with_text_member};
 use crate::versions::is_of_version_1;
 use common::{Addr, EventId};
 use recording::{Event, Recording};
@@ -27,7 +27,7 @@ fn read_members(
     ensures fits { IfOk result (λ _. IsWordSource s) }
 {
     let members = with_member(alloc, Map::new(alloc), "a", Value::from(a))?;
-    let members = with_text(alloc, members, "k", kind)?;
+    let members = with_text_member(alloc, members, "k", kind)?;
     let members = with_member(alloc, members, "r", Value::from(r))?;
     with_member(alloc, members, "s", source_value(s))
 }
@@ -41,7 +41,7 @@ pub(crate) fn event_members(alloc: Global, event: &Event) -> Result<Map<String, 
         Event::L { a, r, s } => read_members(alloc, "L", a, r, s),
         Event::S { a, w } => {
             let members = with_member(alloc, Map::new(alloc), "a", Value::from(a))?;
-            let members = with_text(alloc, members, "k", "S")?;
+            let members = with_text_member(alloc, members, "k", "S")?;
             with_member(alloc, members, "w", Value::from(w))
         }
         Event::R { a, r, s, w } => {
@@ -49,7 +49,7 @@ pub(crate) fn event_members(alloc: Global, event: &Event) -> Result<Map<String, 
             with_member(alloc, members, "w", Value::from(w))
         }
         Event::C { a, r, s } => read_members(alloc, "C", a, r, s),
-        Event::F => with_text(alloc, Map::new(alloc), "k", "F"),
+        Event::F => with_text_member(alloc, Map::new(alloc), "k", "F"),
     }
 }
 

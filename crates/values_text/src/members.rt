@@ -7,7 +7,7 @@ ghost use Rattle.recorder.specs.Text.{members};
 ghost use Rattle.values_text.specs.Text.{known_members, known_data, IsWordKnown, IsFittingKnown};
 
 use common::{Addr, EventId};
-use recorder::{source_value, with_member, with_text};
+use recorder::{source_value, with_member, with_text_member};
 use serde_json::{Map, Value};
 use std::alloc::{AllocError, Global};
 use values::Event;
@@ -24,7 +24,7 @@ fn known_members(
     ensures fits { IfOk result (λ _. IsWordKnown source) }
 {
     let members = with_member(alloc, Map::new(alloc), "a", Value::from(a))?;
-    let members = with_text(alloc, members, "k", kind)?;
+    let members = with_text_member(alloc, members, "k", kind)?;
     let members = with_member(alloc, members, "r", Value::from(r))?;
     match source {
         Some(source) => with_member(alloc, members, "s", source_value(source)),
@@ -45,7 +45,7 @@ pub(crate) fn event_members(
         Event::L { a, r, .. } => known_members(alloc, "L", a, r, source),
         Event::S { a, w } => {
             let members = with_member(alloc, Map::new(alloc), "a", Value::from(a))?;
-            let members = with_text(alloc, members, "k", "S")?;
+            let members = with_text_member(alloc, members, "k", "S")?;
             with_member(alloc, members, "w", Value::from(w))
         }
         Event::R { a, r, w, .. } => {
@@ -53,6 +53,6 @@ pub(crate) fn event_members(
             with_member(alloc, members, "w", Value::from(w))
         }
         Event::C { a, r, .. } => known_members(alloc, "C", a, r, source),
-        Event::F => with_text(alloc, Map::new(alloc), "k", "F"),
+        Event::F => with_text_member(alloc, Map::new(alloc), "k", "F"),
     }
 }
