@@ -61,6 +61,8 @@ pub(crate) struct Engine<'a, R, G> {
 }
 
 impl<R: Wait, G: Gate> Engine<'_, R, G> {
+    ghost use Rattle.std.specs.Prelude.{◌≡◌};
+
     /// Puts these lines on the queue, of which those that lie there are the first; false where there is no more room or
     /// memory runs out before.
     pub(crate) fn offer(&self, lines: &[u8]) -> bool {
@@ -68,7 +70,10 @@ impl<R: Wait, G: Gate> Engine<'_, R, G> {
     }
 
     /// What judges lines as this worker.
-    pub(crate) fn line_judge(&self, worker: usize) -> LineJudge<'_, G> {
+    pub(crate) fn line_judge(&self, worker: usize) -> LineJudge<'_, G>
+        ensures kind { result.kind ≡ self.now.kind }
+        ensures worker { result.worker ≡ worker }
+    {
         LineJudge {
             alloc: self.alloc,
             kind: self.kind,
