@@ -2,11 +2,12 @@
 use Rattle.std.proofs.Common.{◌≡◌, ◌<◌, ◌≤◌, ◌+◌, inl, inr, ℕ, Option, Some, None, List, length, arith, sym, ap, subst}
 use Rattle.std.proofs.Common.{◌∙◌}
 use Rattle.std.proofs.lemmas.Bool.{cases_lt}
+use Rattle.std.proofs.lemmas.Option.{same_Some}
 use Rattle.recording.specs.EventLaws.{Reads-event}
 use Rattle.values.specs.Values.{Values}
 use Rattle.values.specs.Refused.{events_alone}
 use Rattle.completion.specs.declared.table.Placed.{Placed}
-use Rattle.completion.specs.Only.{MayGiveValue}
+use Rattle.completion.specs.Only.{HasNoChoice, MayGiveValue}
 use Rattle.completion.specs.Pairs.{IsTable}
 use Rattle.completion.specs.Part.{IsAmong, MayFeed}
 use Rattle.completion.proofs.Alone.{table_size, write_inside}
@@ -57,13 +58,22 @@ pub one_first : (v : Values) (e n : ℕ) → ((s : Option ℕ) → IsAmong (λ w
 one_first v e n none s t hs ht ms mt = is_last v e n none s ms hs ∙ sym (is_last v e n none t mt ht)
 
 -- what gives an event its value feeds it, where it does not do so itself
-feeds : (v : Values) (e : ℕ) → ¬ MayGiveValue v e (Some e) → (s : Option ℕ) → MayGiveValue v e s → MayFeed v e s
+pub feeds : (v : Values) (e : ℕ) → ¬ MayGiveValue v e (Some e) → (s : Option ℕ) → MayGiveValue v e s → MayFeed v e s
 feeds v e own s gives = record {
   address = gives.address;
   reads = gives.reads;
   gives = gives.gives;
   other = λ same. own (subst (λ (o : Option ℕ). MayGiveValue v e o) same gives);
   known = gives.known;
+}
+
+-- what feeds it gives it its value
+pub gives : (v : Values) (e : ℕ) (s : Option ℕ) → MayFeed v e s → MayGiveValue v e s
+gives v e s may = record {
+  address = may.address;
+  reads = may.reads;
+  gives = may.gives;
+  known = may.known;
 }
 
 -- so it is one thing
@@ -77,3 +87,32 @@ pub read_inside : (v : Values) (items : List Placed) (e : ℕ) (s : Option ℕ) 
     → e < length items
 read_inside v items e s h gives =
     omega (arith, Reads-event (events_alone v) e gives.address gives.reads, table_size v items h)
+
+-- What leaves a choice
+
+-- one number more
+pub still_among : (n : ℕ) (s : Option ℕ) → IsAmong (λ w. w < n) s → IsAmong (λ w. w < n + 1) s
+still_among n None h = tt
+still_among n (Some w) h = omega (arith, h)
+
+-- what feeds an event is among the numbers below n
+abbrev pub IsFedBelow : Values → ℕ → ℕ → Type 0
+IsFedBelow v e n = (s : Option ℕ) × IsAmong (λ w. w < n) s × MayFeed v e s
+
+pub still_fed : (v : Values) (e n : ℕ) → IsFedBelow v e n → IsFedBelow v e (n + 1)
+still_fed v e n (s, among, may) = (s, still_among n s among, may)
+
+-- where n feeds it, too, it is fed twice
+pub fed_twice : (v : Values) (e n : ℕ) → IsFedBelow v e n → MayFeed v e (Some n)
+    → ¬ ((s t : Option ℕ) → MayFeed v e s → MayFeed v e t → s ≡ t)
+fed_twice v e n (None, among, may) fed once = absurd (let clash : None ≡ Some n = once None (Some n) may fed in cc)
+fed_twice v e n (Some w, among, may) fed once =
+    absurd (omega (arith, among, same_Some w n (once (Some w) (Some n) may fed)))
+
+-- what is no event has no choice
+pub no_event : (v : Values) (items : List Placed) (e : ℕ) → IsTable v items → length items ≤ e → HasNoChoice v e
+no_event v items e h past = record {
+  sources = λ s t ours theirs. absurd (omega (arith, past, read_inside v items e s h ours));
+  other = λ own. absurd (omega (arith, past, read_inside v items e (Some e) h own));
+  writes = λ a u ours theirs. absurd (omega (arith, past, write_inside v items e a h ours));
+}

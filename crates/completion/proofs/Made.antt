@@ -12,9 +12,10 @@ use Rattle.recording.specs.Execution.{Execution, event_at, placed_from, source_o
 use Rattle.recording.specs.PlacedLaws.{placed_at}
 use Rattle.values.specs.Refused.{events_alone}
 use Rattle.values.specs.Values.{IsCompletion, Values, unsourced, AreAllowed}
+use Rattle.completion.specs.Only.{HasValues}
 use Rattle.completion.specs.Performed.{AreSourced, HaveRoom, LeadsToEnd, writers}
 use Rattle.completion.specs.Situation.{events_of, number_of}
-use Rattle.completion.proofs.Alone.{count_alone, count_with, reads_alone, with_reads, writes_alone}
+use Rattle.completion.proofs.Alone.{count_with, reads_with, with_reads, writes_with}
 use Rattle.completion.proofs.Completes.{IsMade, completes}
 use Rattle.completion.proofs.Numbered.{found, inside_here}
 use Rattle.completion.proofs.Rank.{core_there}
@@ -65,16 +66,16 @@ module _ (v : Values) (sources : List (Option ℕ)) (x : Execution) (cores : map
       list_is : (a : ℕ) → a < length v.initial → write_list x a ≡ writers v a order
       list_is a there = lists_are a there
 
--- values that TSO allows have room
-pub allowed_room : (v : Values) → AreAllowed v → HaveRoom v
-allowed_room v (x, m, h) = record {
+-- values that a recording has have room
+pub has_room : (v : Values) (x : Execution) → HasValues v x → HaveRoom v
+has_room v x h = record {
   few_cores = omega (
     arith,
     h.recording.within.few_cores,
     ap (λ (l : List (List Event)). length l) h.cores,
     length-map x.cores (map unsourced),
   );
-  few_events = omega (arith, h.recording.within.few_events, count_alone v x m h);
+  few_events = omega (arith, h.recording.within.few_events, count_with v x h.cores);
   few_addresses = omega (
     arith,
     h.recording.within.few_addresses,
@@ -88,19 +89,29 @@ allowed_room v (x, m, h) = record {
     uses : (e a : ℕ) → Reads (events_alone v) e a ⊎ Writes (events_alone v) e a → a < length v.initial
     uses e a (inl r) = omega (
       arith,
-      h.recording.within.addresses e a (inl (reads_alone v x m h e a r)),
+      h.recording.within.addresses e a (inl (reads_with v x h.cores e a r)),
       h.recording.within.initial,
       ap (λ (l : List ℕ). length l) h.initial,
     )
     uses e a (inr w) = omega (
       arith,
-      h.recording.within.addresses e a (inr (writes_alone v x m h e a w)),
+      h.recording.within.addresses e a (inr (writes_with v x h.cores e a w)),
       h.recording.within.initial,
       ap (λ (l : List ℕ). length l) h.initial,
     )
 
     reads : (e w : ℕ) → (a : ℕ) × Reads x e a → (a : ℕ) × Reads (events_alone v) e a
     reads e w (a, r) = (a, with_reads v x h.cores e a r)
+
+-- so have those that TSO allows
+pub allowed_room : (v : Values) → AreAllowed v → HaveRoom v
+allowed_room v (x, m, h) = has_room v x (record {
+  cores = h.cores;
+  initial = h.initial;
+  sources = h.sources;
+  final_values = h.final_values;
+  recording = h.recording;
+})
 
 -- so what leads to the end is a completion
 pub completion_made : (v : Values) (order : List ℕ) (sources given : List (Option ℕ)) (listed : List ℕ) (x : Execution)

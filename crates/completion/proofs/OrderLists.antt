@@ -9,8 +9,9 @@ use Rattle.std.proofs.lemmas.List.{append-nil, get_or_push, take-append-drop, ta
 use Rattle.std.proofs.lemmas.List.Elements.{filter-append}
 use Rattle.std.proofs.lemmas.Option.{slice_get-get_or, slice_get_past, same_Some}
 use Rattle.recording.specs.Event.{written_address}
-use Rattle.recording.specs.Execution.{event_at, Writes}
-use Rattle.recording.specs.Order.{place, times, Before}
+use Rattle.recording.specs.EventLaws.{Writes-event}
+use Rattle.recording.specs.Execution.{event_at, event_count, Writes}
+use Rattle.recording.specs.Order.{place, times, Before, Enumerates}
 use Rattle.recording.specs.OrderLaws.{times_here, times_there, times_nil, times_append, place_here, place_there}
 use Rattle.recording.specs.OrderLaws.{place_in, times_in, place_one, place_within, place_append_left}
 use Rattle.recording.specs.OrderLaws.{place_append_right, before_in_left}
@@ -236,6 +237,14 @@ writers_once v a order once e = go (writes_to v a e) refl
     go true is = omega (arith, once e, times_filter (writes_to v a) order e is)
     go false is = omega (arith, times_filter_no (writes_to v a) order e is)
 
+-- all of them, where all events are listed
+pub writers_all : (v : Values) (a : ℕ) (order : List ℕ) → Enumerates (λ e. e < event_count (events_alone v)) order
+    → Enumerates (λ e. Writes (events_alone v) e a) (writers v a order)
+writers_all v a order all = record {
+  once = λ e w. writer_there v a e order w ∙ all.once e (Writes-event (events_alone v) e a w);
+  nothing_else = λ e there. there_writer v a e order there;
+}
+
 -- in the order of all
 pub writers_before : (v : Values) (a e f : ℕ) (order : List ℕ) → Before (writers v a order) e f → Before order e f
 writers_before v a e f order before =
@@ -275,3 +284,49 @@ module _ (v : Values) (a i d : ℕ) (order : List ℕ) (inside : i < length orde
   writers_by test = ap (writers v a) more_is
       ∙ writers_same v a (get_or order i d) (take i order) (λ writes. absurd (
       let clash : false ≡ true = sym test ∙ writes_yes v a (get_or order i d) writes in cc))
+
+-- The numbers below n
+
+-- none
+pub numbers_none : Enumerates (λ e. e < 0) []
+numbers_none = record {
+  once = λ e low. absurd (omega (arith, low));
+  nothing_else = λ e there. absurd (omega (arith, there, times_nil e));
+}
+
+-- one more
+pub numbers_more : (n : ℕ) (xs : List ℕ) → Enumerates (λ e. e < n) xs → Enumerates (λ e. e < n + 1) (xs ++ n ∷ [])
+numbers_more n xs h = record {
+  once = λ e less. elim (cases_lt e n) [
+    | inl low ↦ omega (
+      arith,
+      h.once e low,
+      times_append xs (n ∷ []) e,
+      times_there [] n e (λ same. absurd (omega (arith, low, same))),
+      times_nil e,
+    )
+    | inr last ↦
+        let at : n ≡ e = omega (arith, less, last) in
+        omega (arith, not_yet e last, times_append xs (n ∷ []) e, times_here [] n e at, times_nil e)
+  ];
+  nothing_else = λ e there. elim (cases_lt e n) [
+    | inl low ↦ omega (arith, low)
+    | inr past ↦ elim (cases_eq n e) [
+      | inl same ↦ omega (arith, same)
+      | inr other ↦ absurd (omega (
+        arith,
+        there,
+        not_yet e past,
+        times_append xs (n ∷ []) e,
+        times_there [] n e other,
+        times_nil e,
+      ))
+    ]
+  ];
+}
+  where
+    not_yet : (e : ℕ) → n ≤ e → times xs e ≡ 0
+    not_yet e past = elim (cases_lt 0 (times xs e)) [
+      | inl there ↦ absurd (omega (arith, past, h.nothing_else e there))
+      | inr none ↦ omega (arith, none)
+    ]

@@ -8,7 +8,7 @@ use Rattle.std.proofs.lemmas.Bool.Decides.{nat_tests}
 use Rattle.std.proofs.lemmas.List.{ext_get_or, length-map}
 use Rattle.recording.specs.declared.event.Event.{Event}
 use Rattle.recording.specs.declared.event.Event.TheVariants.{L, S, R, C, F}
-use Rattle.recording.specs.Event.{read_address, source, value_read, value_written, written_address}
+use Rattle.recording.specs.Event.{read_address, source, value_read}
 use Rattle.recording.specs.Execution.{Execution, event_at, placed_from, source_of, write_list, Reads, Writes}
 use Rattle.recording.specs.Order.{Enumerates, times}
 use Rattle.recording.specs.OrderLaws.{times_here, times_nil}
@@ -17,9 +17,11 @@ use Rattle.recording.specs.Recording.{executed}
 use Rattle.recording.specs.Tso.{Gives}
 use Rattle.values.specs.Values.{Values, unsourced}
 use Rattle.values.specs.Refused.{events_alone}
-use Rattle.completion.specs.Only.{AreDetermined, HasValues, MayGiveValue}
-use Rattle.completion.proofs.Alone.{placed_alone, placed_unsourced, same_write, same_written}
-use Rattle.completion.proofs.Hopeful.{same_address, same_value}
+use Rattle.completion.specs.Only.{AreDetermined, HasValues, IsFeeder, LeaveNoChoice, MayGiveValue}
+use Rattle.completion.specs.Part.{MayFeed}
+use Rattle.completion.proofs.Alone.{event_with, reads_with, value_with, with_writes, writes_with, written_with}
+use Rattle.completion.proofs.Chosen.{feeds, gives}
+use Rattle.completion.proofs.Hopeful.{same_address}
 
 -- Events
 
@@ -119,57 +121,76 @@ same_list P Q to from one (x ∷ []) (y ∷ z ∷ ys) ex ey =
     absurd (omega (arith, twice_no Q y z ys ey (λ e f he hf. one e f (from e he) (from f hf))))
 same_list P Q to from one (x ∷ z ∷ xs) (y ∷ ys) ex ey = absurd (omega (arith, twice_no P x z xs ex one))
 
+-- what is listed under one name is listed under another
+listed_as : (P Q : ℕ → Type 0) → ((e : ℕ) → P e → Q e) → ((e : ℕ) → Q e → P e) → (xs : List ℕ) → Enumerates P xs
+    → Enumerates Q xs
+listed_as P Q to from xs h = record {
+  once = λ e q. h.once e (from e q);
+  nothing_else = λ e there. to e (h.nothing_else e there);
+}
+
 -- Recordings
 
+-- an execution with the events of values has as many on each core
+sizes_with : (v : Values) (x : Execution) → map (map unsourced) x.cores ≡ v.cores
+    → map (λ es. length es) x.cores ≡ map (λ es. length es) v.cores
+sizes_with v x cores = sym (sizes_alone x.cores) ∙ ap (λ (l : List (List Event)). map (λ (es : List Event). length es) l) cores
+
+-- and no source where nothing is read
+none_with : (v : Values) (x : Execution) → map (map unsourced) x.cores ≡ v.cores → (e : ℕ)
+    → read_address (event_at (events_alone v) e) ≡ None → source_of x e ≡ None
+none_with v x cores e none = no_source (event_at x e)
+    (sym (same_address (event_at x e)) ∙ (ap read_address (sym (event_with v x cores e)) ∙ none))
+
 module _ (v : Values) (x : Execution) (h : HasValues v x) where
-  -- their events are those of the recording without sources
-  event_has : (e : ℕ) → event_at (events_alone v) e ≡ unsourced (event_at x e)
-  unfolding event_at
-  event_has e =
-      let fence : ℕ × Event = (0, F) in
-      ap (λ (p : ℕ × Event). p.1) (ap (λ (l : List (ℕ × Event)). get_or l e fence)
-      (ap (placed_from 0) (sym h.cores) ∙ placed_alone 0 x.cores)
-      ∙ lists.get_or-map placed_unsourced (placed_from 0 x.cores) e fence)
-
-  has_reads : (e a : ℕ) → Reads (events_alone v) e a → Reads x e a
-  has_reads e a r = sym (same_address (event_at x e)) ∙ (ap read_address (sym (event_has e)) ∙ r)
-
-  has_writes : (e a : ℕ) → Writes (events_alone v) e a → Writes x e a
-  has_writes e a w = sym (same_write (event_at x e)) ∙ (ap written_address (sym (event_has e)) ∙ w)
-
-  writes_has : (e a : ℕ) → Writes x e a → Writes (events_alone v) e a
-  writes_has e a w = ap written_address (event_has e) ∙ (same_write (event_at x e) ∙ w)
-
-  value_has : (e : ℕ) → value_read (event_at (events_alone v) e) ≡ value_read (event_at x e)
-  value_has e = ap value_read (event_has e) ∙ same_value (event_at x e)
-
-  written_has : (e : ℕ) → value_written (event_at (events_alone v) e) ≡ value_written (event_at x e)
-  written_has e = ap value_written (event_has e) ∙ same_written (event_at x e)
-
   -- a source that gives a value in the recording gives it in the values
   gives_has : (a : ℕ) (s : Option ℕ) (n : ℕ) → Gives x a s n → Gives (events_alone v) a s n
   gives_has a None n g = g ∙ ap (λ (l : List ℕ). get_or l a 0) h.initial
-  gives_has a (Some w) n g = (writes_has w a g.0, written_has w ∙ g.1)
+  gives_has a (Some w) n g = (with_writes v x h.cores w a g.0, written_with v x h.cores w ∙ g.1)
 
   -- the source of a read gives it its value
   source_has : (e a : ℕ) → Reads (events_alone v) e a → MayGiveValue v e (source_of x e)
   source_has e a reads = record {
     address = a;
     reads = reads;
-    gives = subst (λ (n : ℕ). Gives (events_alone v) a (source_of x e) n) (sym (value_has e))
+    gives = subst (λ (n : ℕ). Gives (events_alone v) a (source_of x e) n) (sym (value_with v x h.cores e))
         (gives_has a (source_of x e) (value_read (event_at x e))
-        (h.recording.well_formed.sources e a (has_reads e a reads)));
+        (h.recording.well_formed.sources e a (reads_with v x h.cores e a reads)));
     known = λ t known. sym (h.sources e t known);
   }
 
-  sizes_has : map (λ es. length es) x.cores ≡ map (λ es. length es) v.cores
-  sizes_has = sym (sizes_alone x.cores) ∙ ap (λ (l : List (List Event)). map (λ (es : List Event). length es) l) h.cores
+  -- as many write lists as initial values
+  lists_has : length x.write_lists ≡ length v.initial
+  lists_has = sym h.recording.within.initial ∙ ap (λ (l : List ℕ). length l) h.initial
 
--- what reads nothing has no source in a recording of the values
-none_has : (v : Values) (x : Execution) → HasValues v x → (e : ℕ) → read_address (event_at (events_alone v) e) ≡ None
-    → source_of x e ≡ None
-none_has v x h e none = no_source (event_at x e)
-    (sym (same_address (event_at x e)) ∙ (ap read_address (sym (event_has v x h e)) ∙ none))
+-- an execution with the events of values, with the sources of a recording of them and with all writes in its lists, is
+-- that recording, where each address has one write
+module _ (v : Values) (x y : Execution) (hx : HasValues v x) (cores : map (map unsourced) y.cores ≡ v.cores)
+    (initial : y.initial ≡ v.initial) (lists : length y.write_lists ≡ length v.initial)
+    (sources : (e : ℕ) → source_of y e ≡ source_of x e)
+    (writes : (a : ℕ) → a < length v.initial → Enumerates (λ e. Writes (events_alone v) e a) (get_or y.write_lists a []))
+    (once : (a w u : ℕ) → Writes (events_alone v) w a → Writes (events_alone v) u a → w ≡ u) where
+  events_same : (e : ℕ) → event_at y e ≡ event_at x e
+  events_same e = event_same (event_at y e) (event_at x e)
+      (sym (event_with v y cores e) ∙ event_with v x hx.cores e) (sources e)
+
+  cores_same : y.cores ≡ x.cores
+  unfolding event_at
+  cores_same = same_cores y.cores x.cores (sizes_with v y cores ∙ sym (sizes_with v x hx.cores)) events_same
+
+  lists_same : y.write_lists ≡ x.write_lists
+  unfolding write_list
+  lists_same = ext_get_or [] y.write_lists x.write_lists (lists ∙ sym (lists_has v x hx))
+      (λ a inside. same_list (λ e. Writes (events_alone v) e a) (λ e. Writes x e a)
+      (λ e w. writes_with v x hx.cores e a w) (λ e w. with_writes v x hx.cores e a w) (once a)
+      (get_or y.write_lists a []) (get_or x.write_lists a []) (writes a (omega (arith, inside, lists)))
+      (hx.recording.well_formed.write_lists a))
+
+  is_same : y ≡ x
+  is_same =
+      ap (λ (l : List (List Event)). executed l y.write_lists y.initial) cores_same
+      ∙ (ap (λ (l : List (List ℕ)). executed x.cores l y.initial) lists_same
+      ∙ ap (λ (l : List ℕ). executed x.cores x.write_lists l) (initial ∙ sym hx.initial))
 
 -- two recordings of values that leave no choice
 module _ (v : Values) (x y : Execution) (is : AreDetermined v) (hx : HasValues v x) (hy : HasValues v y) where
@@ -177,30 +198,37 @@ module _ (v : Values) (x y : Execution) (is : AreDetermined v) (hx : HasValues v
   sources_same e = go (read_address (event_at (events_alone v) e)) refl
     where
       go : (o : Option ℕ) → read_address (event_at (events_alone v) e) ≡ o → source_of y e ≡ source_of x e
-      go None none = none_has v y hy e none ∙ sym (none_has v x hx e none)
+      go None none = none_with v y hy.cores e none ∙ sym (none_with v x hx.cores e none)
       go (Some a) reads = is.sources e (source_of y e) (source_of x e) (source_has v y hy e a reads)
           (source_has v x hx e a reads)
 
-  events_same : (e : ℕ) → event_at y e ≡ event_at x e
-  events_same e = event_same (event_at y e) (event_at x e) (sym (event_has v y hy e) ∙ event_has v x hx e) (sources_same e)
-
-  cores_same : y.cores ≡ x.cores
-  unfolding event_at
-  cores_same = same_cores y.cores x.cores (sizes_has v y hy ∙ sym (sizes_has v x hx)) events_same
-
-  lists_same : y.write_lists ≡ x.write_lists
-  unfolding write_list
-  lists_same = ext_get_or [] y.write_lists x.write_lists
-      (sym hy.recording.within.initial ∙ (ap (λ (l : List ℕ). length l) (hy.initial ∙ sym hx.initial) ∙ hx.recording.within.initial))
-      (λ a inside. same_list (λ e. Writes y e a) (λ e. Writes x e a)
-      (λ e w. has_writes v x hx e a (writes_has v y hy e a w)) (λ e w. has_writes v y hy e a (writes_has v x hx e a w))
-      (λ e f we wf. is.writes a e f (writes_has v y hy e a we) (writes_has v y hy f a wf))
-      (get_or y.write_lists a []) (get_or x.write_lists a [])
-      (hy.recording.well_formed.write_lists a) (hx.recording.well_formed.write_lists a))
-
   -- they are one
   pub recordings_same : y ≡ x
-  recordings_same =
-      ap (λ (l : List (List Event)). executed l y.write_lists y.initial) cores_same
-      ∙ (ap (λ (l : List (List ℕ)). executed x.cores l y.initial) lists_same
-      ∙ ap (λ (l : List ℕ). executed x.cores x.write_lists l) (hy.initial ∙ sym hx.initial))
+  unfolding write_list
+  recordings_same = is_same v x y hx hy.cores hy.initial (lists_has v y hy) sources_same
+      (λ a inside. listed_as (λ e. Writes y e a) (λ e. Writes (events_alone v) e a)
+      (λ e w. with_writes v y hy.cores e a w) (λ e w. writes_with v y hy.cores e a w) (get_or y.write_lists a [])
+      (hy.recording.well_formed.write_lists a)) is.writes
+
+-- what is made of values that leave no choice is their recording, if they have one
+module _ (v : Values) (x y : Execution) (is : LeaveNoChoice v) (hx : HasValues v x)
+    (cores : map (map unsourced) y.cores ≡ v.cores) (initial : y.initial ≡ v.initial)
+    (lists : length y.write_lists ≡ length v.initial)
+    (fed : (e a : ℕ) → Reads (events_alone v) e a → IsFeeder v e (source_of y e))
+    (writes : (a : ℕ) → a < length v.initial → Enumerates (λ e. Writes (events_alone v) e a) (get_or y.write_lists a []))
+  where
+    feeder_is : (e : ℕ) (s t : Option ℕ) → IsFeeder v e s → MayFeed v e t → s ≡ t
+    feeder_is e None None none may = refl
+    feeder_is e None (Some w) none may = absurd (none w may)
+    feeder_is e (Some w) t feeder may = (is e).sources (Some w) t (gives v e (Some w) feeder) (gives v e t may)
+
+    sources_made : (e : ℕ) → source_of y e ≡ source_of x e
+    sources_made e = go (read_address (event_at (events_alone v) e)) refl
+      where
+        go : (o : Option ℕ) → read_address (event_at (events_alone v) e) ≡ o → source_of y e ≡ source_of x e
+        go None none = none_with v y cores e none ∙ sym (none_with v x hx.cores e none)
+        go (Some a) reads = feeder_is e (source_of y e) (source_of x e) (fed e a reads)
+            (feeds v e (is e).other (source_of x e) (source_has v x hx e a reads))
+
+    pub made_same : y ≡ x
+    made_same = is_same v x y hx cores initial lists sources_made writes (λ a w u. (is w).writes a u)

@@ -3,7 +3,7 @@
 ghost use Rattle.std.specs.Prelude.{◌≡◌, ◌<◌, ℕ, IsTrue, Option, Some, false, length};
 ghost use Rattle.recording.specs.Execution.{Writes};
 ghost use Rattle.values.specs.Refused.{events_alone};
-ghost use Rattle.completion.specs.Only.{AreDetermined, MayGiveValue};
+ghost use Rattle.completion.specs.Only.{HasNoChoice, LeaveNoChoice, MayGiveValue};
 ghost use Rattle.completion.specs.Pairs.{IsTable};
 ghost use Rattle.completion.specs.Part.{MayFeed};
 
@@ -16,7 +16,8 @@ use values::Values;
 fn writes_back(values: &Values, table: &[Placed], e: usize) -> bool
     requires table { IsTable values.now table.now }
     requires there { e < length table.now }
-    ensures { result ≡ false → ¬ MayGiveValue values.now e (Some e) }
+    ensures holds { IsTrue result → MayGiveValue values.now e (Some e) }
+    ensures fails { result ≡ false → ¬ MayGiveValue values.now e (Some e) }
 {
     let event = event_at(values, table, e);
     match event.read_address() {
@@ -33,7 +34,9 @@ fn writes_back(values: &Values, table: &[Placed], e: usize) -> bool
 fn is_fed_once(values: &Values, table: &[Placed], e: usize) -> bool
     requires table { IsTable values.now table.now }
     requires there { e < length table.now }
-    ensures { IsTrue result → (s t : Option ℕ) → MayFeed values.now e s → MayFeed values.now e t → s ≡ t }
+    ensures holds { IsTrue result → (s t : Option ℕ) → MayFeed values.now e s → MayFeed values.now e t → s ≡ t }
+    ensures fails { result ≡ false
+        → ¬ ((s t : Option ℕ) → MayFeed values.now e s → MayFeed values.now e t → s ≡ t) }
 {
     let mut found = is_fed_initially(values, table, e);
     for w in 0..table.len() {
@@ -52,7 +55,9 @@ fn write_one_address(values: &Values, table: &[Placed], w: usize, u: usize) -> b
     requires table { IsTable values.now table.now }
     requires first { w < length table.now }
     requires second { u < length table.now }
-    ensures { result ≡ false → (a : ℕ) → Writes (events_alone values.now) w a → ¬ Writes (events_alone values.now) u a }
+    ensures holds { IsTrue result → (a : ℕ) × Writes (events_alone values.now) w a × Writes (events_alone values.now) u a }
+    ensures fails { result ≡ false → (a : ℕ) → Writes (events_alone values.now) w a
+        → ¬ Writes (events_alone values.now) u a }
 {
     match event_at(values, table, w).written_address() {
         Some(address) => writes_to(values, table, u, address),
@@ -64,8 +69,10 @@ fn write_one_address(values: &Values, table: &[Placed], w: usize, u: usize) -> b
 fn is_only_write(values: &Values, table: &[Placed], w: usize) -> bool
     requires table { IsTable values.now table.now }
     requires there { w < length table.now }
-    ensures { IsTrue result → (a u : ℕ) → Writes (events_alone values.now) w a
+    ensures holds { IsTrue result → (a u : ℕ) → Writes (events_alone values.now) w a
         → Writes (events_alone values.now) u a → w ≡ u }
+    ensures fails { result ≡ false → ¬ ((a u : ℕ) → Writes (events_alone values.now) w a
+        → Writes (events_alone values.now) u a → w ≡ u) }
 {
     for u in 0..table.len() {
         if u != w && write_one_address(values, table, w, u) {
@@ -75,14 +82,13 @@ fn is_only_write(values: &Values, table: &[Placed], w: usize) -> bool
     true
 }
 
-/// Whether an event has one source at most, and no other event writes the address that it writes.
-fn leaves_no_choice(values: &Values, table: &[Placed], e: usize) -> bool
+/// Whether an event has one source at most, which is not the event itself, and no other event writes the address that it
+/// writes.
+fn has_no_choice(values: &Values, table: &[Placed], e: usize) -> bool
     requires table { IsTable values.now table.now }
     requires there { e < length table.now }
-    ensures sources { IsTrue result → (s t : Option ℕ) → MayGiveValue values.now e s → MayGiveValue values.now e t
-        → s ≡ t }
-    ensures writes { IsTrue result → (a u : ℕ) → Writes (events_alone values.now) e a
-        → Writes (events_alone values.now) u a → e ≡ u }
+    ensures holds { IsTrue result → HasNoChoice values.now e }
+    ensures fails { result ≡ false → ¬ HasNoChoice values.now e }
 {
     if writes_back(values, table, e) {
         return false;
@@ -93,13 +99,14 @@ fn leaves_no_choice(values: &Values, table: &[Placed], e: usize) -> bool
     is_only_write(values, table, e)
 }
 
-/// Whether each read has one source at most, and each address one write.
-pub(crate) fn are_determined(values: &Values, table: &[Placed]) -> bool
+/// Whether no event has a choice.
+pub(crate) fn leave_no_choice(values: &Values, table: &[Placed]) -> bool
     requires { IsTable values.now table.now }
-    ensures { IsTrue result → AreDetermined values.now }
+    ensures holds { IsTrue result → LeaveNoChoice values.now }
+    ensures fails { result ≡ false → ¬ LeaveNoChoice values.now }
 {
     for e in 0..table.len() {
-        if !leaves_no_choice(values, table, e) {
+        if !has_no_choice(values, table, e) {
             return false;
         }
     }

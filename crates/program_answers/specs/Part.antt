@@ -3,7 +3,7 @@ use Rattle.std.specs.Prelude.{◌≡◌, ◌++◌, ◌∷◌, [], ℕ, List, Opt
 use Rattle.recording.specs.Execution.{Execution}
 use Rattle.recorder.specs.Text.{recording_text}
 use Rattle.completion.specs.declared.part.Part.{Part}
-use Rattle.completion.specs.Only.{IsOnlyRecording}
+use Rattle.completion.specs.Only.{HasValues, IsOnlyRecording, LeaveNoChoice}
 use Rattle.completion.specs.Part.{IsPart}
 use Rattle.texts.specs.Numbers.{numbers_text}
 use Rattle.values.specs.Values.{Values}
@@ -18,10 +18,12 @@ only_text (Some x) = 10 ∷ recording_text x
 abbrev pub part_text : Part → Option Execution → List ℕ
 part_text p x = 10 ∷ codes "events:" ++ numbers_text p.events.items ++ 10 ∷ text_of_values p.values ++ only_text x
 
--- a part of the values of which each event is needed; where it has a recording, that is the only one
+-- a part of the values of which each event is needed, and the only recording of it: where none is shown, the part leaves
+-- a choice, or has no recording
 pub record ShowsPart (v : Values) (text : List ℕ) : Type 0 where
   pub part : Part
   pub needed : IsPart v part
   pub recording : Option Execution
   pub only : IfSome recording (λ x. IsOnlyRecording part.values x)
+  pub none : recording ≡ None → LeaveNoChoice part.values → (x : Execution) → ¬ HasValues part.values x
   pub text_is : text ≡ part_text part recording

@@ -3,8 +3,8 @@ use Rattle.std.proofs.lemmas.Bool.{cases_lt}
 use Rattle.completion.proofs.Finals.{known_past}
 use Rattle.completion.proofs.known.keeps_finals.Goals as goal
 
-pub returns : goal.returns
-returns c test a n known = elim (cases_lt a c.loop-a.a) [
+pub returns-clause-holds : goal.returns-clause-holds
+returns-clause-holds c test a n known = elim (cases_lt a c.loop-a.a) [
   | inl low ↦ c.loop-a.invariant a n low (ap (λ (l : List (Option ℕ)). get_or l a None) c.final_values-known.ensures ∙ known)
   | inr past ↦
       let lengths = ap (λ (l : List (Option ℕ)). length l) c.final_values-known.ensures in

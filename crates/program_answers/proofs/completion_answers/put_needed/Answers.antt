@@ -9,7 +9,8 @@ returns c = (
     part = c.in-Some.part;
     needed = rw c.in-Some.is at c.in_ok-part.ensures;
     recording = c.in_ok-recording.recording;
-    only = c.in_ok-recording.ensures;
+    only = c.in_ok-recording.ensures.some;
+    none = c.in_ok-recording.ensures.none;
     text_is = refl;
   }),
   c.in_ok-put_part.ensures,
