@@ -15,7 +15,7 @@ use std::sync::Wait;
 const REPORTED_AT_ONCE: usize = 64;
 
 /// How many batches a worker has then at least.
-const BATCHES_OF_WORKER: usize = 2;
+const BATCHES_OF_WORKER: usize = 4;
 
 /// How many recordings lie on the queue at most.
 pub(crate) fn room_of(reports: Reports) -> usize {
