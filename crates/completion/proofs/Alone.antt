@@ -127,15 +127,6 @@ module _ (v : Values) (x : Execution) (h : map (map unsourced) x.cores ≡ v.cor
   )
 
 module _ (v : Values) (x : Execution) (m : List ℕ) (h : IsCompletion v x m) where
-  pub event_alone : (e : ℕ) → event_at (events_alone v) e ≡ unsourced (event_at x e)
-  event_alone = event_with v x h.cores
-
-  pub core_alone : (e : ℕ) → core_of (events_alone v) e ≡ core_of x e
-  core_alone = core_with v x h.cores
-
-  pub count_alone : event_count (events_alone v) ≡ event_count x
-  count_alone = count_with v x h.cores
-
   pub reads_alone : (e a : ℕ) → Reads (events_alone v) e a → Reads x e a
   reads_alone = reads_with v x h.cores
 

@@ -55,7 +55,8 @@ fn write_one_address(values: &Values, table: &[Placed], w: usize, u: usize) -> b
     requires table { IsTable values.now table.now }
     requires first { w < length table.now }
     requires second { u < length table.now }
-    ensures holds { IsTrue result → (a : ℕ) × Writes (events_alone values.now) w a × Writes (events_alone values.now) u a }
+    ensures holds { IsTrue result → (a : ℕ) × Writes (events_alone values.now) w a
+        × Writes (events_alone values.now) u a }
     ensures fails { result ≡ false → (a : ℕ) → Writes (events_alone values.now) w a
         → ¬ Writes (events_alone values.now) u a }
 {
@@ -82,8 +83,8 @@ fn is_only_write(values: &Values, table: &[Placed], w: usize) -> bool
     true
 }
 
-/// Whether an event has one source at most, which is not the event itself, and no other event writes the address that it
-/// writes.
+/// Whether an event has one source at most, which is not the event itself, and no other event writes the address that
+/// it writes.
 fn has_no_choice(values: &Values, table: &[Placed], e: usize) -> bool
     requires table { IsTable values.now table.now }
     requires there { e < length table.now }

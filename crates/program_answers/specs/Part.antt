@@ -18,8 +18,8 @@ only_text (Some x) = 10 ∷ recording_text x
 abbrev pub part_text : Part → Option Execution → List ℕ
 part_text p x = 10 ∷ codes "events:" ++ numbers_text p.events.items ++ 10 ∷ text_of_values p.values ++ only_text x
 
--- a part of the values of which each event is needed, and the only recording of it: where none is shown, the part leaves
--- a choice, or has no recording
+-- a part of the values of which each event is needed, and the only recording of it: where none is shown, the part
+-- leaves a choice, or has no recording
 pub record ShowsPart (v : Values) (text : List ℕ) : Type 0 where
   pub part : Part
   pub needed : IsPart v part
