@@ -17,7 +17,7 @@ use Rattle.completion.specs.declared.left.Left.{Left}
 use Rattle.completion.specs.declared.table.Placed.{Placed}
 use Rattle.completion.specs.declared.part.Tried.{Tried}
 use Rattle.completion.specs.declared.part.Tried.TheVariants.{Allowed}
-use Rattle.completion.specs.Left.{AreTried, IsAllowedWith, IsInRow, IsLeft, IsRefuted, IsTried, LeavesFed}
+use Rattle.completion.specs.Left.{IsAllowedWith, IsInRow, IsLeft, IsRefuted, IsTried, LeavesFed}
 use Rattle.completion.specs.Pairs.{IsTable}
 use Rattle.completion.specs.Part.{AreFed, AreMostFed, IsAmong, IsFedAmong, IsMember, IsNeeded, IsPart, MayFeed}
 use Rattle.completion.proofs.Alone.{write_inside}
@@ -159,7 +159,7 @@ needed_without v l e row is numbers with = (
 
 -- what is left is a part, where TSO does not allow it and each event is needed
 pub part_left : (v : Values) (l : Left) → IsRefuted v l
-    → AreTried v l (event_count (events_alone v)) Allowed
+    → ((e : ℕ) → e < event_count (events_alone v) → IsInRow l.row e → IsNeeded v l.events.items e)
     → IsPart v (record { events = l.events; values = l.values })
 part_left v l is needed = record {
   events = is.left.events;
@@ -171,15 +171,16 @@ part_left v l is needed = record {
 }
 
 -- what was tried and is allowed
-tried_allowed : (v : Values) (row : List Bool) (t : Tried) → t ≡ Allowed → IsTried v row t → IsAllowedWith v row
-tried_allowed v row t same is = subst (λ (z : Tried). IsTried v row z) same is
+tried_allowed : (v : Values) (row : List Bool) (limit : ℕ) (t : Tried) → t ≡ Allowed → IsTried v row limit t
+    → IsAllowedWith v row
+tried_allowed v row limit t same is = subst (λ (z : Tried). IsTried v row limit z) same is
 
 -- so the event that was taken away is needed
-pub tried_needed : (v : Values) (l : Left) (e : ℕ) (row : List Bool) (t : Tried) → IsLeft v l
-    → ((j : ℕ) → is_in row j ≡ (is_in l.row j && not (j == e))) → t ≡ Allowed → IsTried v row t
+pub tried_needed : (v : Values) (l : Left) (e : ℕ) (row : List Bool) (limit : ℕ) (t : Tried) → IsLeft v l
+    → ((j : ℕ) → is_in row j ≡ (is_in l.row j && not (j == e))) → t ≡ Allowed → IsTried v row limit t
     → IsNeeded v l.events.items e
-tried_needed v l e row t is numbers same tried =
-    needed_without v l e row is numbers (tried_allowed v row t same tried)
+tried_needed v l e row limit t is numbers same tried =
+    needed_without v l e row is numbers (tried_allowed v row limit t same tried)
 
 -- one event more that is needed, or is not in the row
 pub needed_more : (v : Values) (l : Left) (n : ℕ)

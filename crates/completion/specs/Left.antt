@@ -1,17 +1,24 @@
 -- What is left of values while events are taken away.
-use Rattle.std.specs.Prelude.{◌≡◌, ◌<◌, ◌↔◌, ℕ, Bool, true, List, length, ⊤}
+use Rattle.std.specs.Prelude.{◌≡◌, ◌<◌, ◌≤◌, ◌+◌, ◌↔◌, ◌⊎◌, ℕ, Bool, true, cond, List, [], ◌∷◌, length}
 use Rattle.bitrow.specs.Bits.{is_in}
 use Rattle.recording.specs.Execution.{event_count}
 use Rattle.values.specs.Values.{Values, AreAllowed}
-use Rattle.values.specs.Refused.{events_alone}
+use Rattle.values.specs.Refused.{events_alone, ObeyRules}
 use Rattle.completion.specs.declared.left.Left.{Left}
+use Rattle.completion.specs.declared.part.TheConstants.{MOST_LEFT}
 use Rattle.completion.specs.declared.part.Tried.{Tried}
 use Rattle.completion.specs.declared.part.Tried.TheVariants.{Allowed, Less, Unknown}
 use Rattle.completion.specs.Part.{AreEvents, AreFed, AreMostFed, IsMember, IsNeeded, IsRestriction}
+use Rattle.completion.specs.Reachable.{HasMore}
 
 -- the numbers that a row has
 abbrev pub IsInRow : List Bool → ℕ → Type 0
 IsInRow row e = is_in row e ≡ true
+
+-- how many numbers a row has
+unfoldable pub member_count : List Bool → ℕ
+member_count [] = 0
+member_count (b ∷ row) = cond b 1 0 + member_count row
 
 -- of the events of one row another has only such, and all that are fed among themselves
 pub record LeavesFed (v : Values) (before after : List Bool) : Type 0 where
@@ -23,6 +30,7 @@ pub record LeavesFed (v : Values) (before after : List Bool) : Type 0 where
 pub record IsLeft (v : Values) (l : Left) : Type 0 where
   pub size : length l.row ≡ event_count (events_alone v)
   pub events : AreEvents v l.events.items
+  pub few : length l.events.items ≤ event_count (events_alone v)
   pub same : (e : ℕ) → IsMember l.events.items e ↔ IsInRow l.row e
   pub fed : AreFed v (IsInRow l.row)
   pub values : IsRestriction v l.events.items l.values
@@ -37,14 +45,22 @@ abbrev pub IsAllowedWith : Values → List Bool → Type 0
 IsAllowedWith v row = (rest : List ℕ) × (w : Values) × AreEvents v rest × AreMostFed v (IsInRow row) rest
     × IsRestriction v rest w × AreAllowed w
 
+-- values with some of the events alone lead to more situations than the limit
+abbrev pub IsGivenUp : Values → ℕ → Type 0
+IsGivenUp v limit = (rest : List ℕ) × (w : Values) × AreEvents v rest × IsRestriction v rest w × HasMore w limit
+
 -- what came of trying the events of a row alone
-abbrev pub IsTried : Values → List Bool → Tried → Type 0
-IsTried v row Allowed = IsAllowedWith v row
-IsTried v row (Less l) = IsRefuted v l
-IsTried v row Unknown = ⊤
+abbrev pub IsTried : Values → List Bool → ℕ → Tried → Type 0
+IsTried v row limit Allowed = IsAllowedWith v row
+IsTried v row limit (Less l) = IsRefuted v l × (member_count l.row ≤ member_count row)
+IsTried v row limit Unknown = IsGivenUp v limit
 
 -- what came of taking each event below n away: all are needed, or less is left
-abbrev pub AreTried : Values → Left → ℕ → Tried → Type 0
-AreTried v l n Allowed = (e : ℕ) → e < n → IsInRow l.row e → IsNeeded v l.events.items e
-AreTried v l n (Less k) = IsRefuted v k
-AreTried v l n Unknown = ⊤
+abbrev pub AreTried : Values → Left → ℕ → ℕ → Tried → Type 0
+AreTried v l n limit Allowed = (e : ℕ) → e < n → IsInRow l.row e → IsNeeded v l.events.items e
+AreTried v l n limit (Less k) = IsRefuted v k × (member_count k.row < member_count l.row)
+AreTried v l n limit Unknown = IsGivenUp v limit
+
+-- why no part is found: the values break a rule or TSO allows them, there are many events, or a search was given up
+abbrev pub HasNoPart : Values → ℕ → Type 0
+HasNoPart v limit = (ObeyRules v → AreAllowed v) ⊎ ((MOST_LEFT < event_count (events_alone v)) ⊎ IsGivenUp v limit)

@@ -1,7 +1,7 @@
 //! Reads that nothing among other events may feed are taken away.
 
 ghost use Rattle.std.specs.Prelude.{◌≡◌, ◌<◌, ℕ, IsTrue, Option, false, length};
-ghost use Rattle.completion.specs.Left.{IsInRow, LeavesFed};
+ghost use Rattle.completion.specs.Left.{member_count, IsInRow, LeavesFed};
 ghost use Rattle.completion.specs.Pairs.{IsTable};
 ghost use Rattle.completion.specs.Part.{AreFed, IsFedAmong, MayFeed};
 
@@ -30,6 +30,7 @@ fn drop_unfed(values: &Values, table: &[Placed], row: &mut BitRow, e: usize) -> 
     requires there { e < length table.now }
     ensures size { length row.new ≡ length row.old }
     ensures leaves { LeavesFed values.now row.old row.new }
+    ensures fewer { IsTrue result → member_count row.new < member_count row.old }
     ensures same { result ≡ false → row.new ≡ row.old }
     ensures stays { result ≡ false → IsInRow row.new e → (s : Option ℕ) → MayFeed values.now e s
         → IsFedAmong values.now (IsInRow row.new) e }
@@ -47,6 +48,7 @@ fn drop_each_unfed(values: &Values, table: &[Placed], row: &mut BitRow) -> bool
     requires row { length row.old ≡ length table.now }
     ensures size { length row.new ≡ length row.old }
     ensures leaves { LeavesFed values.now row.old row.new }
+    ensures fewer { IsTrue result → member_count row.new < member_count row.old }
     ensures fed { result ≡ false → AreFed values.now (IsInRow row.new) }
 {
     let mut dropped = false;
@@ -58,18 +60,17 @@ fn drop_each_unfed(values: &Values, table: &[Placed], row: &mut BitRow) -> bool
     dropped
 }
 
-/// Takes events out of a row until each may stay. Whether that came to its end.
-pub(crate) fn drop_all_unfed(values: &Values, table: &[Placed], row: &mut BitRow) -> bool
+/// Takes events out of a row until each may stay.
+pub(crate) fn drop_all_unfed(values: &Values, table: &[Placed], row: &mut BitRow)
     requires table { IsTable values.now table.now }
     requires row { length row.old ≡ length table.now }
     ensures size { length row.new ≡ length row.old }
     ensures leaves { LeavesFed values.now row.old row.new }
-    ensures fed { IsTrue result → AreFed values.now (IsInRow row.new) }
+    ensures fed { AreFed values.now (IsInRow row.new) }
 {
-    for _ in 0..table.len() {
+    for pass in 0..table.len() {
         if !drop_each_unfed(values, table, row) {
-            return true;
+            return;
         }
     }
-    !drop_each_unfed(values, table, row)
 }

@@ -1,6 +1,6 @@
 //! What is left of values while events are taken away.
 
-ghost use Rattle.std.specs.Prelude.{◌≡◌, ◌≤◌, IfOk, IfSome, length};
+ghost use Rattle.std.specs.Prelude.{◌≡◌, ◌≤◌, IfOk, length};
 ghost use Rattle.common.specs.declared.limits.TheConstants.{MAX_EVENTS};
 ghost use Rattle.completion.specs.Left.{IsLeft, LeavesFed};
 ghost use Rattle.completion.specs.Pairs.{IsTable};
@@ -25,28 +25,26 @@ pub struct Left {
 }
 
 /// What is left of the events of a row where all reads that are not fed among them are taken away, which something may
-/// feed; none where that came to no end. Fails only if out of memory.
+/// feed. Fails only if out of memory.
 pub(crate) fn left_of(
     alloc: Global,
     values: &Values,
     table: &[Placed],
     row: BitRow,
-) -> Result<Option<Left>, OutOfMemory>
+) -> Result<Left, OutOfMemory>
     requires table { IsTable values.now table.now }
     requires row { length row ≡ length table.now }
     requires few { length table.now ≤ MAX_EVENTS }
-    ensures left { IfOk result (λ o. IfSome o (λ l. IsLeft values.now l)) }
-    ensures leaves { IfOk result (λ o. IfSome o (λ l. LeavesFed values.now row l.row)) }
+    ensures left { IfOk result (IsLeft values.now) }
+    ensures leaves { IfOk result (λ l. LeavesFed values.now row l.row) }
 {
     let mut row = row;
-    if !drop_all_unfed(values, table, &mut row) {
-        return Ok(None);
-    }
+    drop_all_unfed(values, table, &mut row);
     let events = row.to_numbers(alloc)?;
     let rest = restrict_to(alloc, values, table, &row, &events)?;
-    Ok(Some(Left {
+    Ok(Left {
         row,
         events,
         values: rest,
-    }))
+    })
 }

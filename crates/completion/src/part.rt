@@ -1,8 +1,8 @@
 //! Parts of values that TSO does not allow, of which each event is needed.
 
-ghost use Rattle.std.specs.Prelude.{◌≡◌, ◌≢◌, ◌+◌, ◌<◌, ◌≤◌, IfOk, IfSome, IsTrue, false, length};
+ghost use Rattle.std.specs.Prelude.{◌≡◌, ◌≢◌, ◌+◌, ◌<◌, ◌≤◌, IfOk, IsTrue, MatchOption, false, length};
 ghost use Rattle.common.specs.declared.limits.TheConstants.{MAX_EVENTS};
-ghost use Rattle.completion.specs.Left.{AreTried, IsLeft, IsRefuted, IsTried};
+ghost use Rattle.completion.specs.Left.{AreTried, HasNoPart, IsGivenUp, IsLeft, IsRefuted, IsTried};
 ghost use Rattle.completion.specs.Pairs.{IsTable};
 ghost use Rattle.completion.specs.Part.{IsPart};
 
@@ -22,7 +22,7 @@ const RUN_LIMIT: usize = 1_000;
 const RUN_TRIES: usize = 32;
 
 /// How many events may be left where runs were taken away.
-const MOST_LEFT: usize = 64;
+pub const MOST_LEFT: usize = 64;
 
 /// Some events of values, and the values with these alone.
 #[derive(Drop)]
@@ -55,11 +55,9 @@ fn try_row(
     requires table { IsTable values.now table.now }
     requires row { length row ≡ length table.now }
     requires few { length table.now ≤ MAX_EVENTS }
-    ensures { IfOk result (λ t. IsTried values.now row t) }
+    ensures { IfOk result (IsTried values.now row limit) }
 {
-    let Some(left) = left_of(alloc, values, table, row)? else {
-        return Ok(Tried::Unknown);
-    };
+    let left = left_of(alloc, values, table, row)?;
     match complete(alloc, &left.values, limit)? {
         Answer::Completed(_recording, _order) => Ok(Tried::Allowed),
         Answer::Impossible(_) => Ok(Tried::Less(left)),
@@ -90,7 +88,7 @@ fn try_each(
     requires table { IsTable values.now table.now }
     requires few { length table.now ≤ MAX_EVENTS }
     requires left { IsLeft values.now left.now }
-    ensures { IfOk result (λ t. AreTried values.now left.now (length table.now) t) }
+    ensures { IfOk result (AreTried values.now left.now (length table.now) limit) }
 {
     for e in 0..table.len() {
         if left.row.test(e) {
@@ -133,7 +131,7 @@ fn cut(
     Ok(left)
 }
 
-/// Takes events away one by one until each is needed; none where it is not known whether one is.
+/// Takes events away one by one until each is needed; none where a search was given up.
 fn minimal(
     alloc: Global,
     values: &Values,
@@ -144,10 +142,10 @@ fn minimal(
     requires table { IsTable values.now table.now }
     requires few { length table.now ≤ MAX_EVENTS }
     requires left { IsRefuted values.now left }
-    ensures { IfOk result (λ o. IfSome o (λ p. IsPart values.now p)) }
+    ensures { IfOk result (λ o. MatchOption o (IsGivenUp values.now limit) (λ p. IsPart values.now p)) }
 {
     let mut left = left;
-    for _ in 0..table.len() + 1 {
+    for taken in 0..table.len() + 1 {
         match try_each(alloc, values, table, &left, limit)? {
             Tried::Allowed => {
                 let Left { events, values, .. } = left;
@@ -157,27 +155,30 @@ fn minimal(
             Tried::Unknown => return Ok(None),
         }
     }
-    Ok(None)
+    unreachable!()
 }
 
 /// A part of values that TSO does not allow, of which each event is needed: some events, fed among themselves, whose
 /// values TSO does not allow, though it does allow them without any one event and without the reads that it alone could
-/// feed. None where TSO allows the values, where a search would look at more than `limit` situations, and where it
-/// would take long: after some tries with all events, more than 64 are left. Fails only if out of memory.
+/// feed. None only where TSO allows the values, where a search would look at more than `limit` situations, and where
+/// it would take long: after some tries with all events, more than 64 are left. Fails only if out of memory.
 pub fn part_of(alloc: Global, values: &Values, limit: usize) -> Result<Option<Part>, OutOfMemory>
-    ensures { IfOk result (λ o. IfSome o (λ p. IsPart values.now p)) }
+    ensures { IfOk result (λ o. MatchOption o (HasNoPart values.now limit) (λ p. IsPart values.now p)) }
 {
     let table = table(alloc, values)?;
     if table.len() > MAX_EVENTS {
         return Ok(None);
     }
     let row = all_events(alloc, table.len())?;
-    let Tried::Less(whole) = try_row(alloc, values, &table, row, limit)? else {
-        return Ok(None);
+    let whole = match try_row(alloc, values, &table, row, limit)? {
+        Tried::Less(whole) => whole,
+        Tried::Allowed => return Ok(None),
+        Tried::Unknown => return Ok(None),
     };
     let left = cut(alloc, values, &table, whole, limit.min(RUN_LIMIT))?;
     if left.events.len() > MOST_LEFT {
         return Ok(None);
     }
-    minimal(alloc, values, &table, left, limit)
+    let found = minimal(alloc, values, &table, left, limit)?;
+    Ok(found)
 }

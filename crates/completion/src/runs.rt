@@ -1,6 +1,6 @@
 //! Sets of events, and runs of events that are taken out of them.
 
-ghost use Rattle.std.specs.Prelude.{◌≡◌, ◌&&◌, ◌==◌, ◌<◌, ℕ, IfOk, IfSome, length, not};
+ghost use Rattle.std.specs.Prelude.{◌≡◌, ◌&&◌, ◌==◌, ◌<◌, ℕ, IfOk, IfSome, true, length, not};
 ghost use Rattle.bitrow.specs.Bits.{is_in};
 
 use crate::pairs::copy;
@@ -10,7 +10,8 @@ use std::alloc::Global;
 
 /// All events. Fails only if out of memory.
 pub(crate) fn all_events(alloc: Global, count: usize) -> Result<BitRow, OutOfMemory>
-    ensures { IfOk result (λ row. length row ≡ count) }
+    ensures size { IfOk result (λ row. length row ≡ count) }
+    ensures all { IfOk result (λ row. (e : ℕ) → e < count → is_in row e ≡ true) }
 {
     let mut row = BitRow::new(alloc, count)?;
     for e in 0..count {

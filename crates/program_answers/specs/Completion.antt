@@ -5,6 +5,7 @@ use Rattle.recorder.specs.Text.{recording_text}
 use Rattle.values.specs.Values.{AreAllowed, IsCompletion, Values}
 use Rattle.completion.specs.declared.cause.Link.{Link}
 use Rattle.completion.specs.Circle.{IsCircle}
+use Rattle.completion.specs.Left.{HasNoPart}
 use Rattle.completion.specs.Reachable.{HasMore}
 use Rattle.verdicts.specs.declared.printed.Answer.{Answer}
 use Rattle.verdicts.specs.declared.outcome.Outcome.TheVariants.{Ordered, Unfinished, Violation}
@@ -19,17 +20,17 @@ pub record IsCompleted (v : Values) (answer : Answer) : Type 0 where
   pub completes : IsCompletion v recording order
   pub said : IsText Ordered (recording_text recording) answer
 
--- a part of the values may be shown
-abbrev pub MayShowPart : Values → List ℕ → Type 0
-MayShowPart v shown = (shown ≡ []) ⊎ ShowsPart v shown
+-- a part of the values is shown, if one is found
+abbrev pub MayShowPart : Values → ℕ → List ℕ → Type 0
+MayShowPart v states shown = ((shown ≡ []) × HasNoPart v states) ⊎ ShowsPart v shown
 
--- TSO does not allow the values; a circle may be shown, and a part of them
-pub record IsImpossible (v : Values) (answer : Answer) : Type 0 where
+-- TSO does not allow the values; a circle may be shown, and a part of them, if one is found
+pub record IsImpossible (v : Values) (states : ℕ) (answer : Answer) : Type 0 where
   pub refuted : ¬ AreAllowed v
   pub circle : List Link
   pub shows : (circle ≡ []) ⊎ IsCircle v circle
   pub shown : List ℕ
-  pub part : MayShowPart v shown
+  pub part : MayShowPart v states shown
   pub said : IsText Violation ((codes "impossible" ++ 10 ∷ circle_text circle) ++ shown) answer
 
 -- moves lead to more states than may be seen, and nothing is said but that
@@ -39,4 +40,4 @@ pub record IsUncompleted (v : Values) (states : ℕ) (answer : Answer) : Type 0 
 
 -- a recording that completes the values, or that there is none, or that there are more states than may be seen
 abbrev pub IsCompletionAnswer : Values → ℕ → Answer → Type 0
-IsCompletionAnswer v states answer = IsCompleted v answer ⊎ IsImpossible v answer ⊎ IsUncompleted v states answer
+IsCompletionAnswer v states answer = IsCompleted v answer ⊎ IsImpossible v states answer ⊎ IsUncompleted v states answer

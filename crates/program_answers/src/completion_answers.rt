@@ -23,7 +23,7 @@ fn put_needed(
     values: &Values,
     states: usize,
 ) -> Result<(), OutOfMemory>
-    ensures { OnOk result ((shown : List ℕ) × MayShowPart values.now shown
+    ensures { OnOk result ((shown : List ℕ) × MayShowPart values.now states shown
         × (out.new.items ≡ out.old.items ++ shown)) }
 {
     let Some(part) = part_of(alloc, values, states)? else {
@@ -43,7 +43,7 @@ fn impossible_answer(
 ) -> Result<Answer, OutOfMemory>
     requires refuted { ¬ AreAllowed values.now }
     requires circle { (circle.now ≡ []) ⊎ IsCircle values.now circle.now }
-    ensures { IfOk result (IsImpossible values.now) }
+    ensures { IfOk result (IsImpossible values.now states) }
 {
     let mut text = Vec::new(alloc);
     put_text(&mut text, b"impossible\n")?;

@@ -1,6 +1,6 @@
 //! The text of values alone.
 
-ghost use Rattle.std.specs.Prelude.{◌≡◌, Bool, IfOk, Ok, is_some, map};
+ghost use Rattle.std.specs.Prelude.{◌≡◌, IfOk, Ok, is_some, map};
 ghost use Rattle.std.specs.List.{list_any, AllByRecursion};
 ghost use Rattle.serde_json.specs.View.{view};
 ghost use Rattle.recorder.specs.Text.{list_data, IsReadAs};

@@ -6,7 +6,8 @@ use Rattle.completion.proofs.Fed.{numbers_same, row_below}
 use Rattle.completion.proofs.left.left_of.Goals as goal
 
 pub restrict_to-requires-clause-same : goal.restrict_to-requires-clause-same
-restrict_to-requires-clause-same c = subst (λ (ks : List ℕ). (e : ℕ) → IsMember ks e ↔ IsInRow c.drop_all_unfed.new.row e)
+restrict_to-requires-clause-same c = subst
+    (λ (ks : List ℕ). (e : ℕ) → IsMember ks e ↔ IsInRow c.drop_all_unfed.new.row e)
     (sym c.deref.ensures.value)
     (numbers_same c.drop_all_unfed.new.row c.in_ok-events.events.items c.in_ok-events.ensures)
 
@@ -27,8 +28,9 @@ returns-clause-left c =
           row_below c.drop_all_unfed.new.row e ((same e).0 there),
         );
       };
+      few = omega (arith, numbers.few, size, c.requires.row, all);
       same = same;
-      fed = c.drop_all_unfed.ensures.fed c.if-not-drop_all_unfed.false;
+      fed = c.drop_all_unfed.ensures.fed;
       values = subst (λ (ks : List ℕ). IsRestriction c.args.values.now ks c.in_ok-rest.rest) c.deref.ensures.value
           c.in_ok-rest.ensures;
     }

@@ -13,7 +13,7 @@ pub loop-run-preserved : goal.loop-run-preserved
 loop-run-preserved c = elim c.match-branch-2.branch [
   | in-Some+in_ok-less+in-Less w ↦
       let refuted = rw w.in-Less.is at w.in_ok-less.ensures in
-      subst (λ (l : Left). IsRefuted c.args.values.now l) (sym w.left-is) refuted
+      subst (λ (l : Left). IsRefuted c.args.values.now l) (sym w.left-is) refuted.0
   | in-Some+in_ok-less+in_default-2 w ↦
       subst (λ (l : Left). IsRefuted c.args.values.now l) (sym w.left-is) c.loop-run.invariant
   | in_default w ↦ subst (λ (l : Left). IsRefuted c.args.values.now l) (sym w.left-is) c.loop-run.invariant

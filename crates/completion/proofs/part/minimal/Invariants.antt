@@ -1,5 +1,9 @@
-use Rattle.completion.specs.Left.{IsRefuted}
+use Rattle.std.proofs.Common.{◌≤◌, ◌+◌, length}
+use Rattle.completion.specs.Left.{member_count, IsRefuted}
 use Rattle.completion.proofs.part.minimal.Given as goal
 
-abbrev pub invariant-loop : goal.invariant-loop
-invariant-loop l = IsRefuted l.values l.left
+abbrev pub invariant-loop-taken : goal.invariant-loop-taken
+invariant-loop-taken l = record {
+  refuted : IsRefuted l.values l.left;
+  few : member_count l.left.row + l.taken ≤ length l.table;
+}

@@ -1,6 +1,14 @@
-use Rattle.std.proofs.Common.{inr, refl}
+use Rattle.std.proofs.Common.{inl, inr, [], refl, sym}
+use Rattle.std.proofs.lemmas.List.{append-nil}
 use Rattle.program_answers.specs.Part.{part_text}
 use Rattle.program_answers.proofs.completion_answers.put_needed.Goals as goal
+
+pub returns-in_default : goal.returns-in_default
+returns-in_default c = (
+  [],
+  inl (refl, rw c.in_default.is at c.in_ok-part.ensures),
+  sym (append-nil c.args.out.now.items),
+)
 
 pub returns : goal.returns
 returns c = (
