@@ -160,8 +160,9 @@ fn minimal(
 
 /// A part of values that TSO does not allow, of which each event is needed: some events, fed among themselves, whose
 /// values TSO does not allow, though it does allow them without any one event and without the reads that it alone could
-/// feed. None only where TSO allows the values, where a search would look at more than `limit` situations, and where
-/// it would take long: after some tries with all events, more than 64 are left. Fails only if out of memory.
+/// feed. None only where the values break a rule or TSO allows them, where a search would look at more than `limit`
+/// situations, and where it would take long: after some tries with all events, more than 64 are left. Fails only if out
+/// of memory.
 pub fn part_of(alloc: Global, values: &Values, limit: usize) -> Result<Option<Part>, OutOfMemory>
     ensures { IfOk result (λ o. MatchOption o (HasNoPart values.now limit) (λ p. IsPart values.now p)) }
 {
