@@ -12,8 +12,8 @@ use Rattle.recording.specs.declared.event.Event.{Event}
 use Rattle.recording.specs.declared.event.Event.TheVariants.{F}
 use Rattle.recording.specs.EventLaws.{Writes-event}
 use Rattle.recording.specs.Execution.{core_of, event_at, event_count, placed_from}
-use Rattle.recording.specs.Order.{place, times}
-use Rattle.recording.specs.OrderLaws.{place_in, times_nil, times_there}
+use Rattle.recording.specs.Order.{place}
+use Rattle.recording.specs.OrderLaws.{place_in, times_append, times_here, times_nil, times_there}
 use Rattle.recording.specs.PlaceLaws.{at_place, times_at}
 use Rattle.values.specs.Refused.{events_alone, ObeyRules}
 use Rattle.values.specs.Values.{core_events, known_final, known_source, AreAllowed, IsCompletion, Values}
@@ -29,14 +29,6 @@ use Rattle.completion.proofs.Places.{each_at, each_size}
 abbrev numbers : ℕ → ℕ → List ℕ
 numbers n b = each n b (λ k. k)
 
-stands_more : (x : ℕ) (xs : List ℕ) (e : ℕ) → IsMember xs e → IsMember (x ∷ xs) e
-unfolding times
-stands_more x xs e h = omega (arith, h)
-
-stands_first : (x : ℕ) (xs : List ℕ) → IsMember (x ∷ xs) x
-unfolding times
-stands_first x xs = grind (arith, nat_tests)
-
 -- an ascending list of just these numbers
 ascending_all : (ks : List ℕ) (n b : ℕ)
     → ((i j : ℕ) → i < j → j < length ks → get_or ks i 0 < get_or ks j 0)
@@ -45,13 +37,13 @@ ascending_all : (ks : List ℕ) (n b : ℕ)
 ascending_all [] zero b up within all = refl
 ascending_all [] (suc n) b up within all = absurd (omega (arith, times_nil b, all b (omega arith) (omega arith)))
 ascending_all (k ∷ ks) zero b up within all =
-    let none = within k (stands_first k ks) in absurd (omega (arith, none.0, none.1))
+    let none = within k (omega (arith, times_here ks k k refl)) in absurd (omega (arith, none.0, none.1))
 ascending_all (k ∷ ks) (suc n) b up within all =
     ap (λ (z : ℕ). z ∷ ks) first
     ∙ ap (λ (l : List ℕ). b ∷ l) (ascending_all ks n (b + 1)
     (λ i j less inside. up (suc i) (suc j) (omega (arith, less))
     (omega (arith, inside))) (λ e there.
-    let inside = within e (stands_more k ks e there) in
+    let inside = within e (omega (arith, there, times_append (k ∷ []) ks e)) in
     (omega (arith, later e there, first), omega (arith, inside.1))) (λ e from below.
     let there = all e (omega (arith, from)) (omega (arith, below)) in
     omega (arith, there, times_there ks k e (λ (same : k ≡ e). omega (arith, same, first, from)))))
@@ -67,7 +59,7 @@ ascending_all (k ∷ ks) (suc n) b up within all =
       | inr other ↦
           let there = all b (omega arith) (omega arith) in
           let after = later b (omega (arith, there, times_there ks k b other)) in
-          absurd (omega (arith, after, (within k (stands_first k ks)).0))
+          absurd (omega (arith, after, (within k (omega (arith, times_here ks k k refl))).0))
     ]
 
 -- Events of one core

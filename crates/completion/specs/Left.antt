@@ -1,5 +1,5 @@
 -- What is left of values while events are taken away.
-use Rattle.std.specs.Prelude.{◌≡◌, ◌<◌, ◌≤◌, ◌+◌, ◌↔◌, ◌⊎◌, ℕ, Bool, true, cond, List, [], ◌∷◌, length}
+use Rattle.std.specs.Prelude.{◌≡◌, ◌<◌, ◌≤◌, ◌↔◌, ◌⊎◌, ℕ, Bool, true, List, length, count_by}
 use Rattle.bitrow.specs.Bits.{is_in}
 use Rattle.recording.specs.Execution.{event_count}
 use Rattle.values.specs.Values.{Values, AreAllowed}
@@ -16,9 +16,8 @@ abbrev pub IsInRow : List Bool → ℕ → Type 0
 IsInRow row e = is_in row e ≡ true
 
 -- how many numbers a row has
-unfoldable pub member_count : List Bool → ℕ
-member_count [] = 0
-member_count (b ∷ row) = cond b 1 0 + member_count row
+abbrev pub member_count : List Bool → ℕ
+member_count row = count_by (λ b. b) row
 
 -- of the events of one row another has only such, and all that are fed among themselves
 pub record LeavesFed (v : Values) (before after : List Bool) : Type 0 where

@@ -21,7 +21,7 @@ const RUN_LIMIT: usize = 1_000;
 /// How many tries with all events taking runs away may cost. A try with fewer events costs less.
 const RUN_TRIES: usize = 32;
 
-/// How many events may be left where runs were taken away.
+/// The most events of which a part is looked for one by one: where more are left after the first tries, none is.
 pub const MOST_LEFT: usize = 64;
 
 /// Some events of values, and the values with these alone.
