@@ -1,11 +1,11 @@
 -- The list of a row's numbers, from its bits.
 use Rattle.std.proofs.Common.{◌≡◌, ◌<◌, ◌≤◌, ◌+◌, ◌*◌, ◌/◌, inl, inr, ℕ, zero, suc, Bool, true, false, Option}
-use Rattle.std.proofs.Common.{Some, None, ◌||◌, ◌&&◌, not, ◌^◌, List, Vec, Global, length, get_or, arith, refl, sym}
+use Rattle.std.proofs.Common.{Some, None, ◌||◌, ◌&&◌, not, ◌^◌, List, length, drop, get_or, arith, refl, sym}
 use Rattle.std.proofs.Common.{ap, subst, ◌∙◌}
 use Rattle.std.proofs.lemmas.Bool.{cases_lt, ne_eqb, true≢false}
-use Rattle.std.proofs.lemmas.List.{get_or_past, get_or-replicate, length-replicate, with_items_is}
+use Rattle.std.proofs.lemmas.List.{get_or_past, get_or-replicate, length-replicate, take_all, take-append-le}
 use Rattle.std.specs.Prelude.{◌==◌, replicate}
-use Rattle.std.specs.Vec.{with_items}
+use Rattle.smallvec.specs.SmallVec.{SmallVec, with_items}
 use Rattle.bitrow.specs.Bits.{bit_of, bits_of, listed, members_below, is_in, IsClear, IsWidth, AreWordsOf}
 use Rattle.bitrow.specs.Bits.{IsNextBit, IsNext}
 use Rattle.bitrow.proofs.Bits.{none_in}
@@ -115,8 +115,8 @@ pub record Becomes (each : ℕ → Bool → Bool) (row : List Bool) (words : Lis
   pub size : length (members_below words n) ≡ length row
   pub numbers : (j : ℕ) → is_in (members_below words n) j ≡ each j (is_in row j)
 
-module _ (v : Vec ℕ Global) (now new : List ℕ) (n : ℕ) (row : List Bool) (seen : members_below v.items n ≡ row)
-    (h : AreWordsOf v.items n) (same : now ≡ v.items) (long : length new ≡ v.len) (size : length new ≡ length now) where
+module _ (v : SmallVec ℕ) (now new : List ℕ) (n : ℕ) (row : List Bool) (seen : members_below v.items n ≡ row)
+    (h : AreWordsOf v.items n) (same : now ≡ v.items) (size : length new ≡ length now) where
   -- a row whose words a call leaves as new ones, bit by bit
   row_by : (f : ℕ → Bool → Bool) → ((j : ℕ) → n ≤ j → f j false ≡ false)
       → ((j : ℕ) → bit_of new j ≡ f j (bit_of now j)) → Becomes f row (with_items v new).items n
@@ -132,8 +132,12 @@ module _ (v : Vec ℕ Global) (now new : List ℕ) (n : ℕ) (row : List Bool) (
         ∙ (by j ∙ ap (f j) (sym (row_bit v.items n row seen h.clear j)));
   }
     where
+      long : length new ≡ length v.items
+      long = size ∙ ap (λ (ws : List ℕ). length ws) same
+
       kept : (with_items v new).items ≡ new
-      kept = with_items_is v new long
+      kept = take-append-le (length v.items) new (drop (length new) v.items) (omega (arith, long))
+          ∙ take_all (length v.items) new (omega (arith, long))
 
       by : (j : ℕ) → bit_of (with_items v new).items j ≡ f j (bit_of v.items j)
       by j = ap (λ (ws : List ℕ). bit_of ws j) kept ∙ (each j ∙ ap (λ (ws : List ℕ). f j (bit_of ws j)) same)

@@ -7,6 +7,7 @@ use crate::lanes::or_lanes;
 use crate::numbers::Numbers;
 use crate::word_bits::{clear_bit, next_word, set_bit, test_bit};
 use common::OutOfMemory;
+use smallvec::SmallVec;
 use std::alloc::Global;
 use std::marker::Model;
 use std::simd::prelude::*;
@@ -26,10 +27,11 @@ fn width(len: usize) -> usize
     }
 }
 
-/// A set of numbers below its length, in words of which there are 1, 2, 4 or eights.
+/// A set of numbers below its length, in words of which there are 1, 2, 4 or eights. Up to eight lie in the value
+/// itself.
 #[derive(Drop)]
 pub struct BitRow {
-    words: Vec<u64>,
+    words: SmallVec<u64, 8>,
     len: usize,
 }
 
@@ -55,7 +57,7 @@ impl BitRow {
         ensures len { IfOk result (λ row. length row ≡ len) }
         ensures empty { IfOk result (λ row. (j : ℕ) → is_in row j ≡ false) }
     {
-        let words = vec![in alloc; 0u64; width(len)]?;
+        let words = SmallVec::from_elem(alloc, 0, width(len))?;
         Ok(BitRow { words, len })
     }
 
