@@ -9,6 +9,7 @@ use Rattle.smallvec.specs.SmallVec.{SmallVec, with_items}
 use Rattle.bitrow.specs.Bits.{bit_of, bits_of, listed, members_below, is_in, IsClear, IsWidth, AreWordsOf}
 use Rattle.bitrow.specs.Bits.{IsNextBit, IsNext}
 use Rattle.bitrow.proofs.Bits.{none_in}
+use Rattle.bitrow.proofs.RowLemmas.{wide_enough}
 
 -- as many as asked for
 listed_length : (f : ℕ → Bool) (a n : ℕ) → length (listed f a n) ≡ n
@@ -75,6 +76,17 @@ row_length words n row seen = ap (λ (r : List Bool). length r) (sym seen) ∙ m
 pub row_bit : (words : List ℕ) (n : ℕ) (row : List Bool) → members_below words n ≡ row → IsClear n words
     → (j : ℕ) → is_in row j ≡ bit_of words j
 row_bit words n row seen clear j = ap (λ (r : List Bool). is_in r j) (sym seen) ∙ members_bit words n clear j
+
+-- a number of a row is in its words, as they are lent
+pub word_within : (words lent : List ℕ) (n e : ℕ) (row : List Bool) → members_below words n ≡ row → AreWordsOf words n
+    → lent ≡ words → e < length row → e / 64 < length lent
+word_within words lent n e row seen h same low = omega (
+  arith,
+  low,
+  row_length words n row seen,
+  wide_enough (length words) n h.width,
+  ap (λ (ws : List ℕ). length ws) same,
+)
 
 -- rows of one length have as many words
 pub rows_wide : (words other : List ℕ) (n m : ℕ) (row set : List Bool) → members_below words n ≡ row

@@ -1,19 +1,10 @@
-use Rattle.std.proofs.Common.{◌≡◌, arith, ap, List, ℕ, length}
-use Rattle.bitrow.proofs.RowLemmas.{wide_enough}
-use Rattle.bitrow.proofs.Members.{row_set, row_length}
+use Rattle.std.proofs.Common.{arith}
+use Rattle.bitrow.proofs.Members.{row_set, word_within}
 use Rattle.bitrow.proofs.row.BitRow.set.Goals as goal
 
 pub set_bit-requires : goal.set_bit-requires
-set_bit-requires c =
-    let size : length c.args.self.now ≡ c.self.inside.len =
-    row_length c.self.inside.words.items c.self.inside.len c.args.self.now c.self.view_is in
-    omega (
-      arith,
-      size,
-      c.requires,
-      wide_enough _ c.self.inside.len c.self.invariant.width,
-      ap (λ (ws : List ℕ). length ws) c.as_mut_slice.ensures.value,
-    )
+set_bit-requires c = word_within c.self.inside.words.items _ c.self.inside.len c.args.number c.args.self.now
+    c.self.view_is c.self.invariant c.as_mut_slice.ensures.value c.requires
 
 pub invariant_of-self : goal.invariant_of-self
 invariant_of-self c =
