@@ -11,7 +11,7 @@ use Rattle.recording.specs.Execution.{Execution}
 use Rattle.recording.specs.Order.{times}
 use Rattle.recording.specs.OrderLaws.{cases_times, times_nil}
 use Rattle.relations.specs.Forced.{Forced}
-use Rattle.long.specs.Rows.{Rows, times_kept}
+use Rattle.long.specs.Chains.{Chains, times_kept}
 use Rattle.long.specs.Walks.{AreBefore, IsClosedStack, IsWalk}
 use Rattle.long.proofs.Lists.{length_push, times_push_same, times_push_other}
 
@@ -140,7 +140,7 @@ module _ (befores : List ℕ) (seen : List Bool) (stack : List ℕ) (at : ℕ) (
   walking_over is = record { back = h.back; last = h.last; stands = (h.marks at).0 is }
 
 -- a walk along pairs that are forced closes a cycle
-pub walk_closes : (x : Execution) (p : Rows) (counts befores stack : List ℕ) (first : ℕ)
+pub walk_closes : (x : Execution) (p : Chains) (counts befores stack : List ℕ) (first : ℕ)
     → ((d e : ℕ) → 0 < times_kept p d e → Forced x d e) → AreBefore p counts befores → IsWalk befores stack first
     → IsClosedStack x stack first
 walk_closes x p counts befores stack first forced are walk = record {

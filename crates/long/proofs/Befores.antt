@@ -3,18 +3,18 @@ use Rattle.std.proofs.Common.{◌≡◌, ◌<◌, ◌+◌, ◌-◌, inl, inr, �
 use Rattle.std.proofs.Common.{sym, ap, subst, ◌∙◌}
 use Rattle.std.proofs.lemmas.Bool.{cases_eq, cases_lt}
 use Rattle.std.proofs.lemmas.List.{length-replicate}
-use Rattle.long.specs.Rows.{Rows, times_kept}
+use Rattle.long.specs.Chains.{Chains, times_kept}
 use Rattle.long.specs.Walks.{AreBefore, IsBlocked, IsOpenEvent}
 use Rattle.long.proofs.Counted.{zeros}
 
 -- for each event one more than an open event that it is the second of a pair of, where one is below n
-pub record AreBeforeBelow (p : Rows) (counts : List ℕ) (n : ℕ) (befores : List ℕ) : Type 0 where
+pub record AreBeforeBelow (p : Chains) (counts : List ℕ) (n : ℕ) (befores : List ℕ) : Type 0 where
   pub size : length befores ≡ length counts
   pub some : (d e : ℕ) → d < n → 0 < get_or counts d 0 → 0 < times_kept p d e → 0 < get_or befores e 0
   pub before : (e : ℕ) → 0 < get_or befores e 0 → IsOpenEvent counts (get_or befores e 0 - 1)
       × (0 < times_kept p (get_or befores e 0 - 1) e)
 
-module _ (p : Rows) (counts : List ℕ) where
+module _ (p : Chains) (counts : List ℕ) where
   -- none at first
   pub before_none : (befores : List ℕ) → befores ≡ replicate (length counts) 0 → AreBeforeBelow p counts 0 befores
   before_none befores is =

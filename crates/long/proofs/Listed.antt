@@ -1,12 +1,12 @@
 -- Lists of pairs, by their first events.
-use Rattle.std.proofs.Common.{◌≡◌, ◌≢◌, ◌<◌, ◌≤◌, ◌+◌, ◌-◌, ◌⊎◌, inl, inr, ℕ, zero, suc, List, [], ◌∷◌, ◌++◌}
+use Rattle.std.proofs.Common.{◌≡◌, ◌≢◌, ◌<◌, ◌+◌, ◌⊎◌, inl, inr, ℕ, zero, suc, List, [], ◌∷◌, ◌++◌}
 use Rattle.std.proofs.Common.{get_or, drop, length, arith, refl, sym, ap, subst, ◌∙◌}
 use Rattle.std.proofs.lemmas.Bool.{cases_eq, cases_lt}
 use Rattle.std.proofs.lemmas.Bool.Decides.{nat_tests}
-use Rattle.std.proofs.lemmas.List.{drop_more, drop_all}
+use Rattle.std.proofs.lemmas.List.{drop_more}
 use Rattle.recording.specs.Order.{times}
 use Rattle.recording.specs.OrderLaws.{times_append, times_here, times_there, times_nil}
-use Rattle.long.specs.Rows.{seconds_in, times_listed, listed_below, HaveFirstsBelow}
+use Rattle.long.specs.Chains.{seconds_in, times_listed, HaveFirstsBelow}
 
 -- no pair at first
 pub listed_none : (e : ℕ) → seconds_in [] e ≡ []
@@ -132,155 +132,14 @@ listed_at (x ∷ xs) (suc i) low =
       ]
     ]
 
--- below one number more
-pub below_more : (xs : List (ℕ × ℕ)) (n : ℕ) → listed_below xs (suc n) ≡ listed_below xs n + length (seconds_in xs n)
-unfolding listed_below
-below_more xs n = refl
-
--- below none
-pub below_zero : (xs : List (ℕ × ℕ)) → listed_below xs 0 ≡ 0
-unfolding listed_below
-below_zero xs = refl
-
--- a pair that is put before others is none below its first event
-below_there : (xs : List (ℕ × ℕ)) (p : ℕ × ℕ) (n : ℕ) → n ≤ p.0 → listed_below (p ∷ xs) n ≡ listed_below xs n
-below_there xs p zero low = below_zero (p ∷ xs) ∙ sym (below_zero xs)
-below_there xs p (suc n) low = omega (
-  arith,
-  below_more (p ∷ xs) n,
-  below_more xs n,
-  below_there xs p n (omega (arith, low)),
-  ap (λ (s : List ℕ). length s) (listed_there xs p n (λ same. omega (arith, low, same))),
-)
-
--- and one below each greater number
-below_here : (xs : List (ℕ × ℕ)) (p : ℕ × ℕ) (n : ℕ) → p.0 < n → listed_below (p ∷ xs) n ≡ listed_below xs n + 1
-below_here xs p zero low = absurd (omega (arith, low))
-below_here xs p (suc n) low = elim (cases_eq p.0 n) [
-  | inl one ↦ omega (
-    arith,
-    below_more (p ∷ xs) n,
-    below_more xs n,
-    below_there xs p n (omega (arith, one)),
-    ap (λ (s : List ℕ). length s) (listed_here xs p n one),
-  )
-  | inr apart ↦ omega (
-    arith,
-    below_more (p ∷ xs) n,
-    below_more xs n,
-    below_here xs p n (omega (arith, low, apart)),
-    ap (λ (s : List ℕ). length s) (listed_there xs p n apart),
-  )
-]
-
--- there are no more than pairs
-pub below_few : (xs : List (ℕ × ℕ)) (n : ℕ) → listed_below xs n ≤ length xs
-below_few [] zero = omega (arith, below_zero [])
-below_few [] (suc n) = omega (
-  arith,
-  below_more [] n,
-  below_few [] n,
-  ap (λ (s : List ℕ). length s) (listed_none n),
-)
-below_few (x ∷ xs) n = elim (cases_lt x.0 n) [
-  | inl low ↦ omega (arith, below_here xs x n low, below_few xs n)
-  | inr high ↦ omega (arith, below_there xs x n (omega (arith, high)), below_few xs n)
-]
-
--- and no fewer below a greater number
-pub below_grows : (xs : List (ℕ × ℕ)) (m k : ℕ) → listed_below xs m ≤ listed_below xs (k + m)
-below_grows xs m zero =
-    let same : m ≡ 0 + m = omega arith in omega (arith, ap (λ (k : ℕ). listed_below xs k) same)
-below_grows xs m (suc k) =
-    let next : suc k + m ≡ suc (k + m) = omega arith in
-    omega (arith, ap (λ (j : ℕ). listed_below xs j) next, below_more xs (k + m), below_grows xs m k)
-
-pub below_order : (xs : List (ℕ × ℕ)) (m n : ℕ) → m ≤ n → listed_below xs m ≤ listed_below xs n
-below_order xs m n low =
-    let up : (n - m) + m ≡ n = omega (arith, low) in
-    subst (λ (k : ℕ). listed_below xs m ≤ listed_below xs k) up (below_grows xs m (n - m))
-
--- the rest of a list has no more seconds of an event
-pub rest_fewer : (xs : List (ℕ × ℕ)) (k e : ℕ) → length (seconds_in (drop k xs) e) ≤ length (seconds_in xs e)
-rest_fewer xs zero e = omega arith
-rest_fewer [] (suc k) e = omega arith
-rest_fewer (x ∷ xs) (suc k) e = elim (cases_eq x.0 e) [
-  | inl here ↦ omega (
-    arith,
-    rest_fewer xs k e,
-    ap (λ (s : List ℕ). length s) (listed_here xs x e here),
-  )
-  | inr there ↦ omega (
-    arith,
-    rest_fewer xs k e,
-    ap (λ (s : List ℕ). length s) (listed_there xs x e there),
-  )
-]
-
--- an event has no more seconds than there are pairs
-pub seconds_few : (xs : List (ℕ × ℕ)) (e : ℕ) → length (seconds_in xs e) ≤ length xs
-seconds_few [] e = omega (arith, ap (λ (s : List ℕ). length s) (listed_none e))
-seconds_few (x ∷ xs) e = elim (cases_eq x.0 e) [
-  | inl here ↦ omega (arith, seconds_few xs e, ap (λ (s : List ℕ). length s) (listed_here xs x e here))
-  | inr there ↦ omega (arith, seconds_few xs e, ap (λ (s : List ℕ). length s) (listed_there xs x e there))
-]
-
--- where no pair has an event first, it has no seconds
-pub none_listed : (xs : List (ℕ × ℕ)) (e : ℕ) → ((f : ℕ) → times_listed xs e f ≡ 0) → seconds_in xs e ≡ []
-none_listed xs e none = empty (seconds_in xs e) none
-  where
-    empty : (s : List ℕ) → ((f : ℕ) → times s f ≡ 0) → s ≡ []
-    empty [] all = refl
-    empty (f ∷ s) all = absurd (omega (arith, all f, times_here s f f refl))
-
--- the pairs from a place on, which is counted from the end
-module _ (xs : List (ℕ × ℕ)) (i : ℕ) (low : i < length xs) where
-  -- with the pair before them
-  back : drop (length xs - (i + 1)) xs ≡ get_or xs (length xs - 1 - i) (0, 0) ∷ drop (length xs - i) xs
-  back =
-      let here : length xs - (i + 1) ≡ length xs - 1 - i = omega arith in
-      let next : length xs - 1 - i + 1 ≡ length xs - i = omega (arith, low) in
-      ap (λ (k : ℕ). drop k xs) here
-      ∙ drop_more xs (length xs - 1 - i) (0, 0) (omega (arith, low))
-      ∙ ap (λ (k : ℕ). get_or xs (length xs - 1 - i) (0, 0) ∷ drop k xs) next
-
-  -- is a second of its first event
-  pub back_here : (e : ℕ) → (get_or xs (length xs - 1 - i) (0, 0)).0 ≡ e
-      → seconds_in (drop (length xs - (i + 1)) xs) e
-      ≡ (get_or xs (length xs - 1 - i) (0, 0)).1 ∷ seconds_in (drop (length xs - i) xs) e
-  back_here e one =
-      ap (λ (ps : List (ℕ × ℕ)). seconds_in ps e) back
-      ∙ listed_here (drop (length xs - i) xs) (get_or xs (length xs - 1 - i) (0, 0)) e one
-
-  -- and of no other
-  pub back_there : (e : ℕ) → (get_or xs (length xs - 1 - i) (0, 0)).0 ≢ e
-      → seconds_in (drop (length xs - (i + 1)) xs) e ≡ seconds_in (drop (length xs - i) xs) e
-  back_there e apart =
-      ap (λ (ps : List (ℕ × ℕ)). seconds_in ps e) back
-      ∙ listed_there (drop (length xs - i) xs) (get_or xs (length xs - 1 - i) (0, 0)) e apart
-
--- the first event of the pair before them is below n, as all are
-pub back_first : (xs : List (ℕ × ℕ)) (i n : ℕ) → i < length xs → HaveFirstsBelow xs n
-    → (get_or xs (length xs - 1 - i) (0, 0)).0 < n
-back_first xs i n low firsts = firsts (get_or xs (length xs - 1 - i) (0, 0)).0
-    (get_or xs (length xs - 1 - i) (0, 0)).1 (listed_at xs (length xs - 1 - i) (omega (arith, low)))
+-- its first event is below n, as all are
+pub first_below : (xs : List (ℕ × ℕ)) (i n : ℕ) → i < length xs → HaveFirstsBelow xs n → (get_or xs i (0, 0)).0 < n
+first_below xs i n low firsts = firsts (get_or xs i (0, 0)).0 (get_or xs i (0, 0)).1 (listed_at xs i low)
 
 -- and its second one, as all are
-pub back_second : (xs : List (ℕ × ℕ)) (i n : ℕ) → i < length xs → ((e f : ℕ) → 0 < times_listed xs e f → f < n)
-    → (get_or xs (length xs - 1 - i) (0, 0)).1 < n
-back_second xs i n low seconds = seconds (get_or xs (length xs - 1 - i) (0, 0)).0
-    (get_or xs (length xs - 1 - i) (0, 0)).1 (listed_at xs (length xs - 1 - i) (omega (arith, low)))
-
--- none at first
-pub back_none : (xs : List (ℕ × ℕ)) (e : ℕ) → seconds_in (drop (length xs - 0) xs) e ≡ []
-back_none xs e =
-    ap (λ (ps : List (ℕ × ℕ)). seconds_in ps e) (drop_all (length xs - 0) xs (omega arith)) ∙ listed_none e
-
--- and all in the end
-pub back_all : (xs : List (ℕ × ℕ)) (i e : ℕ) → length xs ≤ i → seconds_in (drop (length xs - i) xs) e ≡ seconds_in xs e
-back_all xs i e over =
-    let none : length xs - i ≡ 0 = omega (arith, over) in
-    ap (λ (k : ℕ). seconds_in (drop k xs) e) none
+pub second_below : (xs : List (ℕ × ℕ)) (i n : ℕ) → i < length xs → ((e f : ℕ) → 0 < times_listed xs e f → f < n)
+    → (get_or xs i (0, 0)).1 < n
+second_below xs i n low seconds = seconds (get_or xs i (0, 0)).0 (get_or xs i (0, 0)).1 (listed_at xs i low)
 
 -- what holds of the pair at a place holds of each from there on, or it stands after the place
 pub walk_each : (P : ℕ → ℕ → Type 0) (xs : List (ℕ × ℕ)) (i : ℕ) → i < length xs

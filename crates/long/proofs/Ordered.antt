@@ -8,7 +8,7 @@ use Rattle.relations.specs.Consistency.{HasNoOverlook}
 use Rattle.relations.specs.Forced.{Forced}
 use Rattle.relations.specs.ForcedLaws.{forced_within}
 use Rattle.relations.specs.Laws.{EveryOrderRespects, EveryRespectingIsOrder}
-use Rattle.long.specs.Rows.{times_listed}
+use Rattle.long.specs.Chains.{times_listed}
 use Rattle.long.specs.Positions.{AreInOrder, ArePositions}
 use Rattle.long.specs.Steps.{IsStep}
 use Rattle.long.proofs.Follow.{all_follow}

@@ -1,42 +1,34 @@
--- Rows as they are walked along.
-use Rattle.std.proofs.Common.{◌≡◌, ◌≢◌, ◌<◌, ◌≤◌, ◌+◌, inl, inr, ℕ, List, ◌∷◌, get_or, drop, length, arith, refl, sym}
-use Rattle.std.proofs.Common.{ap, subst, ◌∙◌}
+-- Chains as they are followed.
+use Rattle.std.proofs.Common.{◌≡◌, ◌≢◌, ◌≤◌, ◌+◌, inl, inr, ℕ, List, ◌∷◌, length, arith, refl, ap, ◌∙◌}
 use Rattle.std.proofs.lemmas.Bool.{cases_eq}
-use Rattle.std.proofs.lemmas.List.{drop_more, drop_all}
 use Rattle.recording.specs.Order.{times}
 use Rattle.recording.specs.OrderLaws.{times_here, times_there, times_nil}
+use Rattle.long.specs.Chains.{Chains, rest_from}
+use Rattle.long.proofs.Chained.{chain_ends}
 
-module _ (s l : List ℕ) (is : l ≡ s) (i : ℕ) (low : i < length l) where
-  -- what is left of a row, from its first number on
-  left : drop i s ≡ get_or l i 0 ∷ drop (i + 1) s
-  left = subst (λ (r : List ℕ). drop i r ≡ get_or l i 0 ∷ drop (i + 1) r) is (drop_more l i 0 low)
+-- the first of a list stands once more than in the rest
+pub first_here : (s rest : List ℕ) (v : ℕ) → s ≡ v ∷ rest → times s v ≡ times rest v + 1
+first_here s rest v is = ap (λ (l : List ℕ). times l v) is ∙ times_here rest v v refl
 
-  -- the first number of what is left stands once more than in the rest
-  pub first_here : times (drop i s) (get_or l i 0) ≡ times (drop (i + 1) s) (get_or l i 0) + 1
-  first_here =
-      ap (λ (r : List ℕ). times r (get_or l i 0)) left
-      ∙ times_here (drop (i + 1) s) (get_or l i 0) (get_or l i 0) refl
+-- others stand as often
+pub first_other : (s rest : List ℕ) (v f : ℕ) → s ≡ v ∷ rest → v ≢ f → times s f ≡ times rest f
+first_other s rest v f is apart = ap (λ (l : List ℕ). times l f) is ∙ times_there rest v f apart
 
-  -- others stand as often
-  pub first_other : (f : ℕ) → get_or l i 0 ≢ f → times (drop i s) f ≡ times (drop (i + 1) s) f
-  first_other f apart =
-      ap (λ (r : List ℕ). times r f) left ∙ times_there (drop (i + 1) s) (get_or l i 0) f apart
+-- none stands more often in the rest
+pub rest_less : (s rest : List ℕ) (v f : ℕ) → s ≡ v ∷ rest → times rest f ≤ times s f
+rest_less s rest v f is = elim (cases_eq v f) [
+  | inl one ↦ omega (
+    arith,
+    first_here s rest v is,
+    ap (λ (k : ℕ). times s k) one,
+    ap (λ (k : ℕ). times rest k) one,
+  )
+  | inr apart ↦ omega (arith, first_other s rest v f is apart)
+]
 
-  -- none stands more often in the rest
-  pub rest_less : (f : ℕ) → times (drop (i + 1) s) f ≤ times (drop i s) f
-  rest_less f = elim (cases_eq (get_or l i 0) f) [
-    | inl one ↦ omega (
-      arith,
-      first_here,
-      ap (λ (k : ℕ). times (drop i s) k) one,
-      ap (λ (k : ℕ). times (drop (i + 1) s) k) one,
-    )
-    | inr apart ↦ omega (arith, first_other f apart)
-  ]
-
--- a row that is over has none
-pub rest_over : (s l : List ℕ) → l ≡ s → (i f : ℕ) → length l ≤ i → times (drop i s) f ≡ 0
-rest_over s l is i f over =
-    ap (λ (r : List ℕ). times (drop i r) f) (sym is)
-    ∙ ap (λ (r : List ℕ). times r f) (drop_all i l over)
+-- a chain that is over has none
+pub rest_over : (p : Chains) (head f : ℕ) → head ≡ 0 → times (rest_from p head) f ≡ 0
+rest_over p head f over =
+    ap (λ (h : ℕ). times (rest_from p h) f) over
+    ∙ ap (λ (l : List ℕ). times l f) (chain_ends p.links (length p.links))
     ∙ times_nil f

@@ -17,7 +17,7 @@ use Rattle.relations.specs.Respects.{IsLeastOrder}
 use Rattle.order.specs.Open.{IsOpen}
 use Rattle.order.proofs.Greedy.{IsBefore, IsGreedy, IsWithin, free_is_fresh, greedy_all, greedy_more, waits_for}
 use Rattle.order.proofs.Waits.{IsReleased, all_placed, open_more, waits_less}
-use Rattle.long.specs.Rows.{Rows, times_kept}
+use Rattle.long.specs.Chains.{Chains, times_kept}
 use Rattle.long.specs.declared.sorting.Unsorted.{Unsorted}
 use Rattle.long.specs.Sorted.{IsLeft}
 use Rattle.long.specs.Steps.{IsStep}
@@ -25,11 +25,11 @@ use Rattle.long.specs.Walks.{IsBlocked, IsOpenEvent}
 use Rattle.long.proofs.Follow.{all_follow}
 
 -- pairs that are forced are pairs of events
-pub pairs_within : (x : Execution) → IsWellFormed x → (p : Rows) → ((d e : ℕ) → 0 < times_kept p d e → Forced x d e)
+pub pairs_within : (x : Execution) → IsWellFormed x → (p : Chains) → ((d e : ℕ) → 0 < times_kept p d e → Forced x d e)
     → IsWithin (times_kept p) (event_count x)
 pairs_within x wf p forced d e some = let f = forced d e some in forced_within x wf f.0 d e f.1
 
-module _ (p : Rows) (n : ℕ) (order counts : List ℕ) (g : IsGreedy (times_kept p) n order)
+module _ (p : Chains) (n : ℕ) (order counts : List ℕ) (g : IsGreedy (times_kept p) n order)
     (o : IsOpen (times_kept p) n order counts) (v : ℕ) (low : v < n) (free : get_or counts v 0 ≡ 1) where
   -- the event that is taken is not placed
   fresh : times order v ≡ 0
@@ -79,7 +79,7 @@ module _ (p : Rows) (n : ℕ) (order counts : List ℕ) (g : IsGreedy (times_kep
       )
 
 -- where no event is free each open one waits for one
-none_free : (p : Rows) (n : ℕ) (order counts : List ℕ) → IsOpen (times_kept p) n order counts
+none_free : (p : Chains) (n : ℕ) (order counts : List ℕ) → IsOpen (times_kept p) n order counts
     → ((e : ℕ) → e < length counts → get_or counts e 0 ≢ 1) → IsBlocked p counts
 none_free p n order counts o none e open' =
     let unplaced : times order e ≡ 0 = elim (cases_times order e) [
@@ -93,14 +93,14 @@ none_free p n order counts o none e open' =
     )
 
 -- and where not all are placed one is open
-one_left : (p : Rows) (n : ℕ) (order counts : List ℕ) → IsGreedy (times_kept p) n order
+one_left : (p : Chains) (n : ℕ) (order counts : List ℕ) → IsGreedy (times_kept p) n order
     → IsOpen (times_kept p) n order counts → length order < n → (e : ℕ) × IsOpenEvent counts e
 one_left p n order counts g o long =
     let left : (e : ℕ) × (e < n) × (times order e ≡ 0) = missing n order g.within long in
     (left.0, (omega (arith, left.1, o.size), omega (arith, o.waiting left.0 left.1 left.2)))
 
 -- the events that are left
-pub events_left : (x : Execution) → IsRecording x → (p : Rows) (order counts : List ℕ)
+pub events_left : (x : Execution) → IsRecording x → (p : Chains) (order counts : List ℕ)
     → ((d e : ℕ) → 0 < times_kept p d e → Forced x d e) → IsGreedy (times_kept p) (event_count x) order
     → IsOpen (times_kept p) (event_count x) order counts
     → ((e : ℕ) → e < length counts → get_or counts e 0 ≢ 1) → length order < event_count x
@@ -121,7 +121,7 @@ left_cycle x l is =
     (found.0, found.1)
 
 -- the first order by pairs that are forced, from which all forced pairs follow, is the first of all
-pub first_order : (x : Execution) → IsWellFormed x → HasNoOverlook x → (p : Rows) (m : List ℕ)
+pub first_order : (x : Execution) → IsWellFormed x → HasNoOverlook x → (p : Chains) (m : List ℕ)
     → ((d e : ℕ) → 0 < times_kept p d e → Forced x d e) → ((d e : ℕ) → IsStep x d e → 0 < times_kept p d e)
     → IsGreedy (times_kept p) (event_count x) m → length m ≡ event_count x → IsLeastOrder (Forced x) (event_count x) m
 first_order x wf none p m forced enough g all =

@@ -1,42 +1,51 @@
--- How often events wait, as pairs are counted from the end of their list.
-use Rattle.std.proofs.Common.{◌≡◌, ◌≢◌, ◌<◌, ◌+◌, ◌-◌, ℕ, List, [], drop, get_or, length, arith, refl, sym, ap}
+-- How often events wait, as the pairs of a list are counted.
+use Rattle.std.proofs.Common.{◌≡◌, ◌≢◌, ◌<◌, ◌+◌, ℕ, List, [], ◌∷◌, take, get_or, length, arith, refl, sym, ap, ◌∙◌}
+use Rattle.std.proofs.lemmas.List.{take_more}
 use Rattle.recording.specs.Order.{times}
-use Rattle.recording.specs.OrderLaws.{times_here, times_there}
+use Rattle.recording.specs.OrderLaws.{times_here, times_nil, times_there}
 use Rattle.order.specs.Open.{waits}
-use Rattle.long.specs.Rows.{seconds_in, times_listed}
-use Rattle.long.proofs.Listed.{back_here, back_there}
+use Rattle.long.specs.Chains.{seconds_in, times_listed}
 use Rattle.long.proofs.Counted.{waits_more}
+use Rattle.long.proofs.Listed.{listed_here, listed_none, listed_there, times_put}
 
-module _ (xs : List (ℕ × ℕ)) (i n : ℕ) (low : i < length xs)
-    (first : (get_or xs (length xs - 1 - i) (0, 0)).0 < n) where
-  abbrev b : ℕ
-  b = (get_or xs (length xs - 1 - i) (0, 0)).0
+module _ (xs : List (ℕ × ℕ)) (i n : ℕ) (low : i < length xs) (first : (get_or xs i (0, 0)).0 < n) where
+  abbrev p : ℕ × ℕ
+  p = get_or xs i (0, 0)
 
-  abbrev a : ℕ
-  a = (get_or xs (length xs - 1 - i) (0, 0)).1
+  -- the pair stands once more
+  listed : (d f : ℕ) → times_listed (take (i + 1) xs) d f ≡ times_listed (take i xs) d f + times_listed (p ∷ []) d f
+  listed d f =
+      ap (λ (ps : List (ℕ × ℕ)). times_listed ps d f) (take_more xs i (0, 0) low) ∙ times_put (take i xs) p d f
 
   -- of other first events there are as many pairs
-  others : (f d : ℕ) → d ≢ b
-      → times_listed (drop (length xs - (i + 1)) xs) d f ≡ times_listed (drop (length xs - i) xs) d f
-  others f d apart = ap (λ (s : List ℕ). times s f) (back_there xs i low d (λ same. apart (sym same)))
+  others : (f d : ℕ) → d ≢ p.0 → times_listed (take (i + 1) xs) d f ≡ times_listed (take i xs) d f
+  others f d apart = omega (
+    arith,
+    listed d f,
+    ap (λ (s : List ℕ). times s f) (listed_there [] p d (λ same. apart (sym same)) ∙ listed_none d),
+    times_nil f,
+  )
 
-  -- the second event of the pair before them waits once more
-  pub wait_back : waits (times_listed (drop (length xs - (i + 1)) xs)) [] n (get_or xs (length xs - 1 - i) (0, 0)).1
-      ≡ waits (times_listed (drop (length xs - i) xs)) [] n (get_or xs (length xs - 1 - i) (0, 0)).1 + 1
-  wait_back = waits_more (times_listed (drop (length xs - (i + 1)) xs)) (times_listed (drop (length xs - i) xs)) b a 1
-      (others a) (omega (
-        arith,
-        ap (λ (s : List ℕ). times s a) (back_here xs i low b refl),
-        times_here (seconds_in (drop (length xs - i) xs) b) a a refl,
-      )) n first
+  -- the second event of the pair waits once more
+  pub wait_once : waits (times_listed (take (i + 1) xs)) [] n (get_or xs i (0, 0)).1
+      ≡ waits (times_listed (take i xs)) [] n (get_or xs i (0, 0)).1 + 1
+  wait_once = waits_more (times_listed (take (i + 1) xs)) (times_listed (take i xs)) p.0 p.1 1 (others p.1) (omega (
+    arith,
+    listed p.0 p.1,
+    ap (λ (s : List ℕ). times s p.1) (listed_here [] p p.0 refl),
+    times_here (seconds_in [] p.0) p.1 p.1 refl,
+    ap (λ (s : List ℕ). times s p.1) (listed_none p.0),
+    times_nil p.1,
+  )) n first
 
   -- and no other
-  pub wait_back_other : (f : ℕ) → (get_or xs (length xs - 1 - i) (0, 0)).1 ≢ f
-      → waits (times_listed (drop (length xs - (i + 1)) xs)) [] n f
-      ≡ waits (times_listed (drop (length xs - i) xs)) [] n f + 0
-  wait_back_other f apart = waits_more (times_listed (drop (length xs - (i + 1)) xs))
-      (times_listed (drop (length xs - i) xs)) b f 0 (others f) (omega (
-        arith,
-        ap (λ (s : List ℕ). times s f) (back_here xs i low b refl),
-        times_there (seconds_in (drop (length xs - i) xs) b) a f apart,
-      )) n first
+  pub wait_other : (f : ℕ) → (get_or xs i (0, 0)).1 ≢ f
+      → waits (times_listed (take (i + 1) xs)) [] n f ≡ waits (times_listed (take i xs)) [] n f + 0
+  wait_other f apart = waits_more (times_listed (take (i + 1) xs)) (times_listed (take i xs)) p.0 f 0 (others f) (omega (
+    arith,
+    listed p.0 f,
+    ap (λ (s : List ℕ). times s f) (listed_here [] p p.0 refl),
+    times_there (seconds_in [] p.0) p.1 f apart,
+    ap (λ (s : List ℕ). times s f) (listed_none p.0),
+    times_nil f,
+  )) n first

@@ -1,5 +1,5 @@
 pub mod Steps
-pub mod Rows
+pub mod Chains
 pub mod Linked
 pub mod Ready
 pub mod Walks

@@ -3,7 +3,7 @@ use Rattle.std.specs.Prelude.{◌≡◌, ◌<◌, ◌⊎◌, ℕ, false, Some}
 use Rattle.recording.specs.Execution.{Execution, source_of}
 use Rattle.relations.specs.Forced.{Forced}
 use Rattle.long.specs.declared.linking.Linked.{Linked}
-use Rattle.long.specs.Rows.{times_listed}
+use Rattle.long.specs.Chains.{times_listed}
 use Rattle.long.specs.Steps.{IsLast, IsLastStore}
 
 -- each pair is forced

@@ -1,7 +1,7 @@
 -- Places of events in an order, by number.
 use Rattle.std.specs.Prelude.{◌≡◌, ◌<◌, ℕ, List, length, slice_index}
 use Rattle.recording.specs.Order.{place}
-use Rattle.long.specs.Rows.{times_listed}
+use Rattle.long.specs.Chains.{times_listed}
 
 -- for each number below n its place in a list
 pub record ArePositions (m : List ℕ) (n : ℕ) (positions : List ℕ) : Type 0 where

@@ -6,7 +6,7 @@ use Rattle.relations.specs.Respects.{IsLeastOrder}
 use Rattle.long.specs.declared.sorting.Sorted.{Sorted}
 use Rattle.long.specs.declared.sorting.Sorted.TheVariants.{Ordered, Blocked}
 use Rattle.long.specs.declared.sorting.Unsorted.{Unsorted}
-use Rattle.long.specs.Rows.{times_kept}
+use Rattle.long.specs.Chains.{times_kept}
 use Rattle.long.specs.Walks.{IsBlocked, IsOpenEvent}
 
 -- forced pairs, and open events, each of which is the second of a pair of one of them

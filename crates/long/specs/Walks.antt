@@ -3,7 +3,7 @@ use Rattle.std.specs.Prelude.{◌≡◌, ◌<◌, ◌+◌, ◌-◌, ℕ, List, l
 use Rattle.recording.specs.Execution.{Execution}
 use Rattle.recording.specs.Order.{times}
 use Rattle.relations.specs.Forced.{Forced}
-use Rattle.long.specs.Rows.{Rows, times_kept}
+use Rattle.long.specs.Chains.{Chains, times_kept}
 
 -- each event of the stack is forced before the one below it
 abbrev pub IsChain : Execution → List ℕ → Type 0
@@ -24,11 +24,11 @@ abbrev pub IsOpenEvent : List ℕ → ℕ → Type 0
 IsOpenEvent counts e = (e < length counts) × (0 < slice_index counts e)
 
 -- each open event is the second of a pair of an open event
-abbrev pub IsBlocked : Rows → List ℕ → Type 0
+abbrev pub IsBlocked : Chains → List ℕ → Type 0
 IsBlocked p counts = (e : ℕ) → IsOpenEvent counts e → (d : ℕ) × IsOpenEvent counts d × (0 < times_kept p d e)
 
 -- for each open event one more than an open event that it is the second of a pair of
-pub record AreBefore (p : Rows) (counts befores : List ℕ) : Type 0 where
+pub record AreBefore (p : Chains) (counts befores : List ℕ) : Type 0 where
   pub size : length befores ≡ length counts
   pub some : (e : ℕ) → IsOpenEvent counts e → 0 < slice_index befores e
   pub before : (e : ℕ) → 0 < slice_index befores e → IsOpenEvent counts (slice_index befores e - 1)

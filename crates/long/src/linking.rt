@@ -7,7 +7,7 @@ ghost use Rattle.recording.specs.Execution.{Execution, event_at, event_count, so
 ghost use Rattle.order.specs.Open.{IsOpen};
 ghost use Rattle.relations.specs.Direct.{IsFirstNewer, IsNextWrite};
 ghost use Rattle.relations.specs.Forced.{Forced, IsCoreStart};
-ghost use Rattle.long.specs.Rows.{times_kept, times_listed};
+ghost use Rattle.long.specs.Chains.{times_kept, times_listed};
 ghost use Rattle.long.specs.Linked.{IsLinked};
 ghost use Rattle.long.specs.Steps.{IsStep};
 
@@ -110,7 +110,7 @@ impl Linked {
     ghost use Rattle.recording.specs.Execution.{event_at, event_count, source_of};
     ghost use Rattle.relations.specs.Direct.{IsFirstNewer, IsNextWrite};
     ghost use Rattle.relations.specs.Forced.{Forced, IsCoreStart};
-    ghost use Rattle.long.specs.Rows.{times_listed};
+    ghost use Rattle.long.specs.Chains.{times_listed};
     ghost use Rattle.long.specs.Linked.{IsLinked, IsRightBefore, KeepsPairs};
     ghost use Rattle.long.specs.Steps.{IsLast};
 
@@ -339,19 +339,19 @@ pub(crate) fn link_all(alloc: Global, places: &Places<'_>) -> Result<Linked, Out
     Ok(linked)
 }
 
-/// These pairs, with the second events of each first one side by side, and for each event one more than how often it is
-/// the second of a pair.
-pub(crate) fn link_rows(
+/// These pairs, with a chain for each first event, and for each event one more than how often it is the second of a
+/// pair.
+pub(crate) fn link_chains(
     alloc: Global,
     places: &Places<'_>,
 ) -> Result<(Pairs, Vec<u32>), OutOfMemory>
-    ensures size { IfOk result (λ r. length r.0.starts ≡ event_count places.now + 1) }
-    ensures few { IfOk result (λ r. length r.0.items ≤ 5 * event_count places.now) }
+    ensures size { IfOk result (λ r. length r.0.heads ≡ event_count places.now) }
+    ensures few { IfOk result (λ r. length r.0.links ≤ 5 * event_count places.now) }
     ensures forced { IfOk result (λ r. (d e : ℕ) → 0 < times_kept r.0 d e → Forced places.now d e) }
     ensures enough { IfOk result (λ r. (d e : ℕ) → IsStep places.now d e → 0 < times_kept r.0 d e) }
     ensures open { IfOk result (λ r. IsOpen (times_kept r.0) (event_count places.now) [] r.1.items) }
 {
     places.sound();
     let linked = link_all(alloc, places)?;
-    Pairs::of(alloc, &linked.list, places.len())
+    Pairs::of(alloc, linked.list, places.len())
 }

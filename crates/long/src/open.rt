@@ -1,7 +1,7 @@
 //! For each event that was left open one that is open before it.
 
 ghost use Rattle.std.specs.Prelude.{◌≡◌, ◌<◌, ◌+◌, ◌^◌, ℕ, IfOk, length, slice_index};
-ghost use Rattle.long.specs.Rows.{times_kept};
+ghost use Rattle.long.specs.Chains.{times_kept};
 ghost use Rattle.long.specs.Walks.{AreBefore, IsBlocked};
 
 use crate::pairs::Pairs;
@@ -17,9 +17,11 @@ fn put_seconds(pairs: &Pairs, event: EventId, befores: &mut [u32])
     ensures others { (f : ℕ) → times_kept pairs.now event f ≡ 0
         → slice_index befores.new f ≡ slice_index befores.old f }
 {
-    let seconds = pairs.seconds(event);
-    for place in 0..seconds.len() {
-        befores[seconds[place] as usize] = event + 1;
+    let mut head = pairs.head(event);
+    'chain: while head > 0 {
+        let (second, next) = pairs.link(head);
+        befores[second as usize] = event + 1;
+        head = next;
     }
 }
 

@@ -1,131 +1,103 @@
-//! Pairs of events, with the second events of each first one side by side.
+//! Pairs of events, kept as a chain for each first event.
 
-ghost use Rattle.std.specs.Prelude.{◌≡◌, ◌<◌, ◌+◌, ◌^◌, ℕ, [], IfOk, length, slice_index, slice_range};
+ghost use Rattle.std.specs.Prelude.{◌≡◌, ◌≤◌, ◌<◌, ◌+◌, ◌^◌, ℕ, [], length, slice_index};
+ghost use Rattle.recording.specs.Order.{times};
 ghost use Rattle.order.specs.Open.{IsOpen};
-ghost use Rattle.long.specs.Rows.{listed_below, seconds_in, sum_below, times_listed, HaveFirstsBelow};
+ghost use Rattle.long.specs.Chains.{times_kept, times_listed, AreChains, HaveFirstsBelow};
 
 use common::{EventId, OutOfMemory};
 use std::alloc::Global;
 use std::marker::Model;
 
-/// Pairs of events: the second events of each first one, side by side in a row.
+/// Pairs of events: for each first event a chain of its second ones.
 #[derive(Drop)]
 pub(crate) struct Pairs {
-    /// For each first event where its row begins; last, where the last row ends.
-    starts: Vec<u32>,
-    /// The second events, row after row.
-    items: Vec<EventId>,
+    /// For each first event one more than the place of its last pair; 0 where it has none.
+    heads: Vec<u32>,
+    /// For each pair its second event, and one more than the place of the pair before it of the same first event; 0
+    /// where there is none.
+    links: Vec<(EventId, u32)>,
 }
 
 impl Model for Pairs {
-    ghost use Rattle.long.specs.Rows.{Rows, AreRows};
+    ghost use Rattle.long.specs.Chains.{Chains, AreChains};
 
-    ghost Value = { Rows };
+    ghost Value = { Chains };
 
-    ghost view = { λ p. record { starts = p.starts.items; items = p.items.items } };
+    ghost view = { λ p. record { heads = p.heads.items; links = p.links.items } };
 
-    ghost invariant = { λ p. AreRows (record { starts = p.starts.items; items = p.items.items }) };
+    ghost invariant = { λ p. AreChains (record { heads = p.heads.items; links = p.links.items }) };
 }
 
-/// For each event below a count how many pairs of a list have it as their first one, and a 0; and one more than how
-/// many have it as their second one.
-fn count_pairs(
-    alloc: Global,
-    list: &[(EventId, EventId)],
-    count: usize,
-) -> Result<(Vec<u32>, Vec<u32>), OutOfMemory>
-    requires few { length list.now + 1 < 2 ^ 32 }
-    requires count { count < 2 ^ 32 }
-    requires firsts { HaveFirstsBelow list.now count }
-    requires seconds { (e f : ℕ) → 0 < times_listed list.now e f → f < count }
-    ensures size { IfOk result (λ r. length r.0.items ≡ count + 1) }
-    ensures each { IfOk result (λ r. (e : ℕ) → slice_index r.0.items e ≡ length (seconds_in list.now e)) }
-    ensures open { IfOk result (λ r. IsOpen (times_listed list.now) count [] r.1.items) }
+/// Makes a chain of the pairs of each first event: in a pair's place comes its second event with the place of the pair
+/// before it in its chain. No event has a chain before. Each pair counts one more for its second event.
+fn chain_up(list: &mut [(EventId, u32)], heads: &mut [u32], counts: &mut [u32])
+    requires few { length list.old + 1 < 2 ^ 32 }
+    requires firsts { HaveFirstsBelow list.old (length heads.old) }
+    requires seconds { (e f : ℕ) → 0 < times_listed list.old e f → f < length counts.old }
+    requires size { length counts.old ≡ length heads.old }
+    requires none { (e : ℕ) → slice_index heads.old e ≡ 0 }
+    requires ones { (f : ℕ) → f < length counts.old → slice_index counts.old f ≡ 1 }
+    ensures size { length heads.new ≡ length heads.old }
+    ensures links { length list.new ≡ length list.old }
+    ensures chains { AreChains (record { heads = heads.new; links = list.new }) }
+    ensures each { (e f : ℕ) → times_kept (record { heads = heads.new; links = list.new }) e f
+        ≡ times_listed list.old e f }
+    ensures open { IsOpen (times_listed list.old) (length heads.old) [] counts.new }
 {
-    let mut firsts = vec![in alloc; 0; count + 1]?;
-    let mut counts = vec![in alloc; 1; count]?;
-    for i in 0..list.len() {
-        let (first, second) = list[list.len() - 1 - i];
-        firsts[first as usize] += 1;
+    for place in 0..list.len() {
+        let (first, second) = list[place];
+        list[place] = (second, heads[first as usize]);
+        heads[first as usize] = place as u32 + 1;
         counts[second as usize] += 1;
     }
-    Ok((firsts, counts))
-}
-
-/// Adds to each number all those before it.
-fn sum_up(counts: &mut [u32])
-    requires { sum_below counts.old (length counts.old) < 2 ^ 32 }
-    ensures size { length counts.new ≡ length counts.old }
-    ensures each { (e : ℕ) → e < length counts.old → slice_index counts.new e ≡ sum_below counts.old (e + 1) }
-{
-    let mut sum = 0;
-    for place in 0..counts.len() {
-        sum += counts[place];
-        counts[place] = sum;
-    }
-}
-
-/// The second events of a list of pairs, row after row, and where each row begins. Given is where each row ends.
-fn fill(
-    alloc: Global,
-    list: &[(EventId, EventId)],
-    starts: &mut [u32],
-) -> Result<Vec<EventId>, OutOfMemory>
-    requires firsts { HaveFirstsBelow list.now (length starts.old) }
-    requires ends { (e : ℕ) → e < length starts.old → slice_index starts.old e ≡ listed_below list.now (e + 1) }
-    ensures size { IfOk result (λ _. length starts.new ≡ length starts.old) }
-    ensures items { IfOk result (λ items. length items.items ≡ length list.now) }
-    ensures starts { IfOk result (λ _. (e : ℕ) → e < length starts.old
-        → slice_index starts.new e ≡ listed_below list.now e) }
-    ensures rows { IfOk result (λ items. (e : ℕ) → e < length starts.old
-        → slice_range items.items (listed_below list.now e) (listed_below list.now (e + 1)) ≡ seconds_in list.now e) }
-{
-    let mut items = vec![in alloc; 0; list.len()]?;
-    for i in 0..list.len() {
-        let (first, second) = list[list.len() - 1 - i];
-        let place = starts[first as usize] - 1;
-        items[place as usize] = second;
-        starts[first as usize] = place;
-    }
-    Ok(items)
 }
 
 impl Pairs {
-    ghost use Rattle.std.specs.Prelude.{◌≡◌, ◌<◌, ◌+◌, ◌^◌, ℕ, [], IfOk, length};
+    ghost use Rattle.std.specs.Prelude.{◌≡◌, ◌≤◌, ◌<◌, ◌+◌, ◌∷◌, ◌^◌, ℕ, [], IfOk, length, slice_index};
     ghost use Rattle.order.specs.Open.{IsOpen};
-    ghost use Rattle.long.specs.Rows.{seconds, seconds_in, times_listed, HaveFirstsBelow};
+    ghost use Rattle.long.specs.Chains.{rest_from, seconds, times_kept, times_listed, HaveFirstsBelow};
 
     /// The pairs of a list, whose events are below a count, and for each of these one more than how often it is the
     /// second of a pair.
     pub(crate) fn of(
         alloc: Global,
-        list: &[(EventId, EventId)],
+        list: Vec<(EventId, EventId)>,
         count: usize,
     ) -> Result<(Pairs, Vec<u32>), OutOfMemory>
-        requires few { length list.now + 1 < 2 ^ 32 }
-        requires count { count < 2 ^ 32 }
-        requires firsts { HaveFirstsBelow list.now count }
-        requires seconds { (e f : ℕ) → 0 < times_listed list.now e f → f < count }
-        ensures size { IfOk result (λ r. length r.0.starts ≡ count + 1) }
-        ensures few { IfOk result (λ r. length r.0.items ≡ length list.now) }
-        ensures rows { IfOk result (λ r. (e : ℕ) → seconds r.0 e ≡ seconds_in list.now e) }
-        ensures open { IfOk result (λ r. IsOpen (times_listed list.now) count [] r.1.items) }
+        requires few { length list.items + 1 < 2 ^ 32 }
+        requires firsts { HaveFirstsBelow list.items count }
+        requires seconds { (e f : ℕ) → 0 < times_listed list.items e f → f < count }
+        ensures size { IfOk result (λ r. length r.0.heads ≡ count) }
+        ensures few { IfOk result (λ r. length r.0.links ≡ length list.items) }
+        ensures each { IfOk result (λ r. (e f : ℕ) → times_kept r.0 e f ≡ times_listed list.items e f) }
+        ensures open { IfOk result (λ r. IsOpen (times_listed list.items) count [] r.1.items) }
     {
-        let (mut starts, counts) = count_pairs(alloc, list, count)?;
-        sum_up(&mut starts);
-        let items = fill(alloc, list, &mut starts)?;
-        Ok((Pairs { starts, items }, counts))
+        let mut heads = vec![in alloc; 0; count]?;
+        let mut counts = vec![in alloc; 1; count]?;
+        let mut links = list;
+        chain_up(&mut links, &mut heads, &mut counts);
+        Ok((Pairs { heads, links }, counts))
     }
 
-    /// The second events of the pairs of an event.
-    pub(crate) fn seconds(&self, first: EventId) -> &[EventId]
-        ensures { result.now ≡ seconds self.now first }
+    /// Where the chain of an event begins; 0 where it has no pair.
+    pub(crate) fn head(&self, first: EventId) -> u32
+        ensures rest { rest_from self.now result ≡ seconds self.now first }
+        ensures low { result ≤ length self.now.links }
     {
-        let next = first as usize + 1;
-        if next < self.starts.len() {
-            &self.items[self.starts[next - 1] as usize..self.starts[next] as usize]
-        } else {
-            &self.items[0..0]
+        match self.heads.get(first as usize) {
+            Some(head) => *head,
+            None => 0,
         }
+    }
+
+    /// The second event of the pair with which a chain goes on, and where it goes on after that; 0 where it ends.
+    pub(crate) fn link(&self, head: u32) -> (EventId, u32)
+        requires some { 0 < head }
+        requires low { head ≤ length self.now.links }
+        ensures rest { rest_from self.now head ≡ result.0 ∷ rest_from self.now result.1 }
+        ensures low { result.1 < head }
+    {
+        self.links[head as usize - 1]
     }
 }

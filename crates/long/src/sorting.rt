@@ -4,7 +4,7 @@ ghost use Rattle.std.specs.Prelude.{IfOk};
 ghost use Rattle.relations.specs.Consistency.{HasNoOverlook};
 ghost use Rattle.long.specs.Sorted.{IsSorted};
 
-use crate::linking::link_rows;
+use crate::linking::link_chains;
 use crate::pairs::Pairs;
 use crate::waiting::Waiting;
 use common::{EventId, OutOfMemory};
@@ -33,7 +33,7 @@ pub(crate) fn sort(alloc: Global, places: &Places<'_>) -> Result<Sorted, OutOfMe
     ensures { IfOk result (λ sorted. HasNoOverlook places.now → IsSorted places.now sorted) }
 {
     places.sound();
-    let (pairs, counts) = link_rows(alloc, places)?;
+    let (pairs, counts) = link_chains(alloc, places)?;
     let mut waiting = Waiting::of(alloc, counts)?;
     let mut order = Vec::with_capacity(alloc, places.len())?;
     for placed in 0..places.len() {

@@ -38,7 +38,7 @@ impl Model for Waiting {
 impl Waiting {
     ghost use Rattle.std.specs.Prelude.{◌≡◌, ◌≢◌, ◌≤◌, ◌<◌, ◌+◌, ◌-◌, ◌^◌, ℕ, IfOk, OnOk, MatchOption, length};
     ghost use Rattle.std.specs.Prelude.{slice_index, slice_set};
-    ghost use Rattle.long.specs.Rows.{times_kept};
+    ghost use Rattle.long.specs.Chains.{times_kept};
     ghost use Rattle.long.specs.Ready.{IsReady};
 
     /// The keys of the events whose count is 1.
@@ -108,9 +108,11 @@ impl Waiting {
         ensures fewer { OnOk result ((f : ℕ) → slice_index self.new f
             ≡ slice_index self.old f - times_kept pairs.now event f) }
     {
-        let seconds = pairs.seconds(event);
-        for place in 0..seconds.len() {
-            self.lower(seconds[place])?;
+        let mut head = pairs.head(event);
+        'chain: while head > 0 {
+            let (second, next) = pairs.link(head);
+            self.lower(second)?;
+            head = next;
         }
         Ok(())
     }

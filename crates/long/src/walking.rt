@@ -5,7 +5,7 @@ ghost use Rattle.recording.specs.Execution.{Execution};
 ghost use Rattle.recording.specs.Order.{times};
 ghost use Rattle.relations.specs.Cycle.{IsCycle};
 ghost use Rattle.relations.specs.Forced.{Forced};
-ghost use Rattle.long.specs.Rows.{times_kept};
+ghost use Rattle.long.specs.Chains.{times_kept};
 ghost use Rattle.long.specs.Walks.{IsBlocked, IsClosedStack, IsOpenEvent, IsWalk};
 
 use crate::open::befores;

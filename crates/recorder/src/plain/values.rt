@@ -1,7 +1,7 @@
 //! Single JSON values of a recording, and keys, read from the bytes of its text. Where one is not in its simplest form,
 //! they answer nothing.
 
-ghost use Rattle.std.specs.Prelude.{◌≡◌, ◌++◌, ◌∷◌, [], ℕ, Some, IfSome, decimal};
+ghost use Rattle.std.specs.Prelude.{◌≡◌, ◌≤◌, ◌++◌, ◌∷◌, [], ℕ, Some, IfSome, decimal, drop, length};
 ghost use Rattle.json.specs.Token.{string};
 ghost use Rattle.json.specs.Json.{read_key};
 ghost use Rattle.json.specs.Lex.{token, lex, between};
@@ -55,12 +55,42 @@ pub(crate) fn take_kind(rest: &mut Cursor<'_>) -> Option<u8>
     Some(letter)
 }
 
-/// The number that stands next, taken by a cursor of its own: its place is not written at each digit.
+/// The number with which eight bytes or more begin, if it has no more than seven digits and is not 0, and how many
+/// digits it has.
+#[inline(always)]
+fn short_number(bytes: &[u8]) -> Option<(u64, usize)>
+    requires { 8 ≤ length bytes.now }
+    ensures { IfSome result (λ p. (p.1 ≤ length bytes.now) × (bytes.now ≡ decimal p.0 ++ drop p.1 bytes.now)) }
+{
+    let first = bytes[0];
+    if first == b'0' || !first.is_ascii_digit() {
+        return None;
+    }
+    let mut n = (first - b'0') as u64;
+    for size in 1..8 {
+        let byte = bytes[size];
+        if !byte.is_ascii_digit() {
+            return Some((n, size));
+        }
+        n = n * 10 + (byte - b'0') as u64;
+    }
+    None
+}
+
+/// The number that stands next. A longer one, or one near the end, is taken by a cursor of its own: its place is not
+/// written at each digit.
 #[inline(always)]
 pub(crate) fn take_digits(rest: &mut Cursor<'_>) -> Option<u64>
     ensures { IfSome result (λ n. rest.old ≡ decimal n ++ rest.new) }
 {
-    let mut digits = Cursor::new(rest.rest());
+    let bytes = rest.rest();
+    if bytes.len() >= 8 {
+        if let Some((n, size)) = short_number(bytes) {
+            *rest = Cursor::new(&bytes[size..]);
+            return Some(n);
+        }
+    }
+    let mut digits = Cursor::new(bytes);
     let n = digits.number()?;
     *rest = Cursor::new(digits.rest());
     Some(n)

@@ -1,5 +1,5 @@
 use Rattle.std.proofs.Common.{◌<◌, ◌⊎◌, ℕ, drop, slice_index}
-use Rattle.long.specs.Rows.{times_listed}
+use Rattle.long.specs.Chains.{times_listed}
 use Rattle.long.proofs.checking.all_follow.Given as goal
 
 abbrev pub invariant-loop-place : goal.invariant-loop-place

@@ -5,7 +5,7 @@ use Rattle.relations.proofs.Cores.{core_next, core_so_far, core_start}
 use Rattle.relations.specs.Direct.{is_passed, IsFirstNewer, IsNextWrite}
 use Rattle.relations.specs.Forced.{Forced}
 use Rattle.relations.specs.ForcedLaws.{forced_within}
-use Rattle.long.specs.Rows.{times_listed}
+use Rattle.long.specs.Chains.{times_listed}
 use Rattle.long.specs.Linked.{IsRightBefore}
 use Rattle.long.proofs.Listed.{times_none}
 use Rattle.long.proofs.Steps.{last_next}

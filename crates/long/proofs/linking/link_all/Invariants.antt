@@ -2,7 +2,7 @@ use Rattle.std.proofs.Common.{◌≡◌, ◌≤◌, ◌<◌, ◌*◌, ℕ, true,
 use Rattle.relations.specs.Direct.{IsFirstNewer, IsNextWrite}
 use Rattle.relations.specs.Forced.{Forced}
 use Rattle.relations.proofs.Cores.{IsCoreSoFar}
-use Rattle.long.specs.Rows.{times_listed}
+use Rattle.long.specs.Chains.{times_listed}
 use Rattle.long.specs.Linked.{IsLinked, IsRightBefore}
 use Rattle.long.specs.Steps.{IsLast}
 use Rattle.long.proofs.linking.link_all.Given as goal

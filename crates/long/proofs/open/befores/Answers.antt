@@ -1,6 +1,6 @@
 use Rattle.std.proofs.Common.{◌≡◌, ◌+◌, ℕ, List, get_or, length, arith, sym, subst, ap, ◌∙◌}
 use Rattle.std.proofs.lemmas.List.{with_items_is}
-use Rattle.long.specs.Rows.{times_kept}
+use Rattle.long.specs.Chains.{times_kept}
 use Rattle.long.proofs.Befores.{AreBeforeBelow, before_none, before_still, before_more, before_all}
 use Rattle.long.proofs.open.befores.Goals.{then-counts-event-gt0, else-counts-event-gt0}
 use Rattle.long.proofs.open.befores.Goals as goal

@@ -3,7 +3,7 @@ use Rattle.std.proofs.Common.{sym, subst, ap, ◌∙◌}
 use Rattle.recording.specs.Execution.{event_count}
 use Rattle.order.specs.Open.{IsOpen}
 use Rattle.order.proofs.Greedy.{IsGreedy, greedy_none}
-use Rattle.long.specs.Rows.{times_kept}
+use Rattle.long.specs.Chains.{times_kept}
 use Rattle.long.specs.Sorted.{IsLeft}
 use Rattle.long.proofs.Lists.{length_push}
 use Rattle.long.proofs.Sorts.{events_left, first_order, pairs_within, place_room, placed_more}

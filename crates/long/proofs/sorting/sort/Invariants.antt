@@ -3,7 +3,7 @@ use Rattle.recording.specs.Execution.{event_count}
 use Rattle.relations.specs.Forced.{Forced}
 use Rattle.order.specs.Open.{IsOpen}
 use Rattle.order.proofs.Greedy.{IsGreedy}
-use Rattle.long.specs.Rows.{times_kept}
+use Rattle.long.specs.Chains.{times_kept}
 use Rattle.long.specs.Steps.{IsStep}
 use Rattle.long.proofs.sorting.sort.Given as goal
 

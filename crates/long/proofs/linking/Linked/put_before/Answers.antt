@@ -2,7 +2,7 @@ use Rattle.std.proofs.Common.{◌≡◌, ◌<◌, inl, inr, ℕ, true, sym, subs
 use Rattle.recording.specs.Event.{is_plain_store}
 use Rattle.recording.specs.Execution.{event_at}
 use Rattle.relations.specs.Forced.{Forced}
-use Rattle.long.specs.Rows.{times_listed}
+use Rattle.long.specs.Chains.{times_listed}
 use Rattle.long.proofs.linking.Linked.put_before.Goals as goal
 
 pub returns-clause-before : goal.returns-clause-before

@@ -1,6 +1,6 @@
 use Rattle.std.proofs.Common.{◌<◌, ℕ, List, sym, subst}
 use Rattle.relations.specs.Forced.{Forced}
-use Rattle.long.specs.Rows.{times_listed}
+use Rattle.long.specs.Chains.{times_listed}
 use Rattle.long.proofs.Listed.{put_each, put_keeps, put_stands}
 use Rattle.long.proofs.linking.Linked.put_forced.Goals as goal
 

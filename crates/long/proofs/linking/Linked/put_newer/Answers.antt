@@ -3,7 +3,7 @@ use Rattle.std.proofs.lemmas.Bool.{iff_false}
 use Rattle.std.proofs.lemmas.Result.{on_ok_weaker}
 use Rattle.relations.specs.Direct.{IsFirstNewer}
 use Rattle.relations.specs.Forced.{Forced}
-use Rattle.long.specs.Rows.{times_listed}
+use Rattle.long.specs.Chains.{times_listed}
 use Rattle.long.proofs.Steps.{newer_forced, newer_itself}
 use Rattle.long.proofs.linking.Linked.put_newer.Goals as goal
 

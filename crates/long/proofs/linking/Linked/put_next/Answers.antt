@@ -1,6 +1,6 @@
 use Rattle.std.proofs.Common.{◌≡◌, ◌<◌, ℕ, sym, subst}
 use Rattle.std.proofs.lemmas.Result.{on_ok_weaker}
-use Rattle.long.specs.Rows.{times_listed}
+use Rattle.long.specs.Chains.{times_listed}
 use Rattle.long.proofs.Steps.{next_write_forced}
 use Rattle.long.proofs.linking.Linked.put_next.Goals as goal
 

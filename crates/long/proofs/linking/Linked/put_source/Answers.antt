@@ -2,7 +2,7 @@ use Rattle.std.proofs.Common.{◌≡◌, ◌<◌, ◌∙◌, ℕ, Some, None, sy
 use Rattle.std.proofs.lemmas.Bool.{iff_false}
 use Rattle.std.proofs.lemmas.Result.{on_ok_weaker}
 use Rattle.relations.specs.Forced.{Forced}
-use Rattle.long.specs.Rows.{times_listed}
+use Rattle.long.specs.Chains.{times_listed}
 use Rattle.long.proofs.Steps.{source_forced}
 use Rattle.long.proofs.linking.Linked.put_source.Goals as goal
 
