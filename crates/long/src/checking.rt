@@ -7,10 +7,10 @@ ghost use Rattle.long.specs.Chains.{times_listed};
 ghost use Rattle.long.specs.Positions.{ArePositions, AreInOrder};
 
 use crate::linking::link_all;
-use crate::newest::{Placed, place_all};
+use crate::newest::overlook;
 use common::{EventId, OutOfMemory};
 use recording::Recording;
-use relations::forced_is_exact;
+use relations::{Places, forced_is_exact};
 use std::alloc::Global;
 
 /// For each number below a count its place in a list that has each once and nothing else; none for any other list.
@@ -69,9 +69,10 @@ pub fn is_tso_order(
     let Some(positions) = positions(alloc, order, recording.len())? else {
         return Ok(false);
     };
-    let Placed::All(places) = place_all(alloc, recording)? else {
+    if let Some(_found) = overlook(alloc, recording)? {
         return Ok(false);
-    };
+    }
+    let places = Places::of(alloc, recording)?;
     let linked = link_all(alloc, &places)?;
     Ok(all_follow(&linked.list, &positions))
 }

@@ -3,7 +3,7 @@
 ghost use Rattle.std.specs.Prelude.{IfOk};
 ghost use Rattle.long.specs.Answer.{IsFirstOrder};
 
-use crate::newest::{Placed, place_all};
+use crate::newest::overlook;
 use crate::sorting::{Sorted, Unsorted, sort};
 use common::{EventId, OutOfMemory};
 use recording::Recording;
@@ -34,11 +34,12 @@ pub fn first_order<'a>(
     recording.sound();
     forced_is_exact();
     ordered_is_acyclic();
-    match place_all(alloc, recording)? {
-        Placed::Overlook(load, store) => Ok(FirstOrder::Overlook(load, store)),
-        Placed::All(places) => match sort(alloc, &places)? {
-            Sorted::Ordered(order) => Ok(FirstOrder::Order(order)),
-            Sorted::Blocked(left) => Ok(FirstOrder::Cyclic(places, left)),
-        },
+    if let Some((load, store)) = overlook(alloc, recording)? {
+        return Ok(FirstOrder::Overlook(load, store));
+    }
+    let places = Places::of(alloc, recording)?;
+    match sort(alloc, &places)? {
+        Sorted::Ordered(order) => Ok(FirstOrder::Order(order)),
+        Sorted::Blocked(left) => Ok(FirstOrder::Cyclic(places, left)),
     }
 }

@@ -4,7 +4,7 @@ use Rattle.std.proofs.Common.{sym, ap, subst, ◌∙◌}
 use Rattle.std.proofs.Common.{Vec, Global}
 use Rattle.std.specs.List.{sum, sum_by}
 use Rattle.std.proofs.lemmas.List.{take_all, take-map, length-map}
-use Rattle.std.proofs.lemmas.List.Sums.{sum_by_more, sum-map}
+use Rattle.std.proofs.lemmas.List.Sums.{sum_by_more, sum_by_more_le, sum-map}
 use Rattle.recording.specs.declared.event.Event.{Event}
 use Rattle.recording.specs.declared.event.Event.TheVariants.{F}
 use Rattle.recording.specs.Execution.{Execution, placed_from, event_count, event_at, core_of}
@@ -12,8 +12,7 @@ use Rattle.recording.specs.PlacedLaws.{placed_at, placed_total, located}
 use Rattle.recording.proofs.Finds.{core_seen}
 use Rattle.recording.specs.Tso.{IsWellFormed}
 use Rattle.relations.specs.declared.indexed.IndexedEvent.{IndexedEvent}
-use Rattle.relations.specs.Forced.{IsCoreStart}
-use Rattle.relations.specs.Indexed.{AreIndexed, AreIndexedBelow, events_below}
+use Rattle.relations.specs.Indexed.{AreFrom, AreIndexed, AreIndexedBelow, events_below}
 
 -- one core more
 pub below_more : (x : Execution) (c : ℕ) (es : List Event) → c < length x.cores → get_or x.cores c [] ≡ es
@@ -83,17 +82,25 @@ from_first x c s within core =
     let here = event_below x at.0 at.1 s (get_or x.cores at.0 []) refl at.3 number in
     omega (arith, number, ap (events_below x) (sym here.1 ∙ core))
 
--- what is before an event of core c on it stands from its first number on
-pub core_from : (x : Execution) (c : ℕ) → c < length x.cores → (e : ℕ) → events_below x c ≤ e
-    → e < events_below x (c + 1) → IsCoreStart x (events_below x c) e
-core_from x c at e from low s =
-    let first = events_below x c in
-    let es = get_or x.cores c [] in
-    let more : events_below x (c + 1) ≡ first + length es = below_more x c es at refl in
-    let here = event_below x c (e - first) e es refl (omega (arith, from, low, more)) (omega (arith, from)) in (
-      λ own. (from_first x c s (omega (arith, own.0, own.1)) (own.2 ∙ here.1), own.0),
-      λ after.
-          let there = event_below x c (s - first) s es refl (omega (arith, after.0, after.1, low, more))
-          (omega (arith, after.0)) in
-          (after.1, here.0, there.1 ∙ sym here.1),
-    )
+-- the events of a core, numbered from its first one on
+pub core_from : (x : Execution) (vs : List (Vec Event Global)) (c : ℕ) (v : Vec Event Global)
+    → map (λ (w : Vec Event Global). w.items) vs ≡ x.cores → c < length x.cores → v ≡ get_or vs c v
+    → AreFrom x (events_below x c) v.items
+unfolding event_count
+core_from x vs c v are at is = record {
+  within = omega (
+    arith,
+    sum_by_more_le (λ (es : List Event). length es) x.cores c [] at,
+    ap (λ (es : List Event). length es) (core_here x vs c v are at is),
+    placed_total 0 x.cores,
+  );
+  event = λ i low. (event_here x vs c v are at is i (events_below x c + i) low refl).2;
+  first = λ i low s.
+      let here = event_here x vs c v are at is i (events_below x c + i) low refl in (
+        λ own. (from_first x c s (omega (arith, own.0, own.1)) (own.2 ∙ here.1), own.0),
+        λ from.
+            let number : s ≡ events_below x c + (s - events_below x c) = omega (arith, from.0) in
+            let there = event_here x vs c v are at is (s - events_below x c) s (omega (arith, from.0, from.1, low)) number in
+            (from.1, here.0, there.1 ∙ sym here.1),
+      );
+}

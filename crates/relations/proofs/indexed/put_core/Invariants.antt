@@ -1,6 +1,6 @@
 use Rattle.std.proofs.Common.{◌≡◌, ◌+◌, length}
 use Rattle.relations.specs.Indexed.{AreIndexedSoFar, events_below}
-use Rattle.relations.proofs.indexed.put_core_events.Given as goal
+use Rattle.relations.proofs.indexed.put_core.Given as goal
 
 abbrev pub invariant-loop-i : goal.invariant-loop-i
 invariant-loop-i l =

@@ -5,7 +5,7 @@ use Rattle.relations.specs.declared.indexed.IndexedEvent.{IndexedEvent}
 use Rattle.relations.specs.Indexed.{AreIndexedSoFar}
 use Rattle.relations.proofs.Tables.{placed_more}
 use Rattle.relations.proofs.Indexing.{below_more, core_here, event_here}
-use Rattle.relations.proofs.indexed.put_core_events.Goals as goal
+use Rattle.relations.proofs.indexed.put_core.Goals as goal
 
 pub overflow_cast-number : goal.overflow_cast-number
 overflow_cast-number c =
