@@ -1,7 +1,6 @@
 //! Pairs of events, kept as a chain for each first event.
 
 ghost use Rattle.std.specs.Prelude.{◌≡◌, ◌≤◌, ◌<◌, ◌+◌, ◌^◌, ℕ, [], length, slice_index};
-ghost use Rattle.recording.specs.Order.{times};
 ghost use Rattle.order.specs.Open.{IsOpen};
 ghost use Rattle.long.specs.Chains.{times_kept, times_listed, AreChains, HaveFirstsBelow};
 
