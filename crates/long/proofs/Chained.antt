@@ -2,11 +2,11 @@
 use Rattle.std.proofs.Common.{◌≡◌, ◌<◌, ◌≤◌, ◌+◌, ◌-◌, inl, inr, ℕ, zero, suc, List, [], ◌∷◌, get_or, set}
 use Rattle.std.proofs.Common.{take, length, arith, refl, sym, ap, ◌∙◌, length-set, get_or-set_same, get_or-set_other}
 use Rattle.std.proofs.lemmas.Bool.{cases_eq, cases_lt}
-use Rattle.std.proofs.lemmas.List.{get_or_past, take_all, take_more}
+use Rattle.std.proofs.lemmas.List.{get_or_past, take_all}
 use Rattle.recording.specs.Order.{times}
 use Rattle.recording.specs.OrderLaws.{times_append, times_nil}
-use Rattle.long.specs.Chains.{Chains, chain, rest_from, times_kept, times_listed, AreChains}
-use Rattle.long.proofs.Listed.{listed_here, listed_none, listed_there, times_put}
+use Rattle.long.specs.Chains.{Chains, chain, rest_from, times_kept, times_listed, AreChains, HaveFirstsBelow}
+use Rattle.long.proofs.Listed.{first_below, listed_here, listed_none, listed_there, second_below, times_more}
 
 -- each pair below n leads to one before it
 abbrev LeadBack : List (ℕ × ℕ) → ℕ → Type 0
@@ -98,7 +98,23 @@ chained_none pairs heads none = record {
 
 module _ (pairs : List (ℕ × ℕ)) (i : ℕ) (heads : List ℕ) (links : List (ℕ × ℕ))
     (are : AreChained pairs i heads links) where
-  -- the next pair is the head of the chain of its first event
+  -- the events of the next pair are below n, as all are
+  pub first_next : (n : ℕ) → i < length pairs → HaveFirstsBelow pairs n → (get_or links i (0, 0)).0 < n
+  first_next n low firsts = omega (
+    arith,
+    ap (λ (p : ℕ × ℕ). p.0) (are.others i (omega arith)),
+    first_below pairs i n low firsts,
+  )
+
+  pub second_next : (n : ℕ) → i < length pairs → ((e f : ℕ) → 0 < times_listed pairs e f → f < n)
+      → (get_or links i (0, 0)).1 < n
+  second_next n low seconds = omega (
+    arith,
+    ap (λ (p : ℕ × ℕ). p.1) (are.others i (omega arith)),
+    second_below pairs i n low seconds,
+  )
+
+  -- it is the head of the chain of its first event
   pub chained_more : i < length pairs → (get_or pairs i (0, 0)).0 < length heads
       → AreChained pairs (i + 1) (set heads (get_or pairs i (0, 0)).0 (i + 1))
       (set links i ((get_or pairs i (0, 0)).1, get_or heads (get_or pairs i (0, 0)).0 0))
@@ -111,10 +127,6 @@ module _ (pairs : List (ℕ × ℕ)) (i : ℕ) (heads : List ℕ) (links : List 
       let inside : i < length links = omega (arith, low, are.size) in
       let next : i + 1 ≡ suc i = omega arith in
       let here : get_or now i (0, 0) ≡ (a, h) = get_or-set_same links i (a, h) (0, 0) inside in
-      let listed : (e f : ℕ) → times_listed (take (i + 1) pairs) e f
-      ≡ times_listed (take i pairs) e f + times_listed (p ∷ []) e f =
-      λ e f. ap (λ (ps : List (ℕ × ℕ)). times_listed ps e f) (take_more pairs i (0, 0) low)
-      ∙ times_put (take i pairs) p e f in
       record {
         size = length-set links i (a, h) ∙ are.size;
         others = λ k past. get_or-set_other links i k (a, h) (0, 0) (λ same. omega (arith, past, same))
@@ -158,7 +170,7 @@ module _ (pairs : List (ℕ × ℕ)) (i : ℕ) (heads : List ℕ) (links : List 
                 times_append (a ∷ []) (chain links i h) f,
                 are.each b f,
                 ap (λ (d : ℕ). times_listed (take i pairs) d f) one,
-                listed e f,
+                times_more pairs i low e f,
                 ap (λ (s : List ℕ). times s f) (listed_here [] p e one),
                 ap (λ (s : List ℕ). times (a ∷ s) f) (listed_none e),
               )
@@ -172,7 +184,7 @@ module _ (pairs : List (ℕ × ℕ)) (i : ℕ) (heads : List ℕ) (links : List 
               ∙ omega (
                 arith,
                 are.each e f,
-                listed e f,
+                times_more pairs i low e f,
                 ap (λ (s : List ℕ). times s f) (listed_there [] p e apart ∙ listed_none e),
                 times_nil f,
               )

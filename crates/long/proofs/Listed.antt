@@ -1,9 +1,9 @@
 -- Lists of pairs, by their first events.
 use Rattle.std.proofs.Common.{◌≡◌, ◌≢◌, ◌<◌, ◌+◌, ◌⊎◌, inl, inr, ℕ, zero, suc, List, [], ◌∷◌, ◌++◌}
-use Rattle.std.proofs.Common.{get_or, drop, length, arith, refl, sym, ap, subst, ◌∙◌}
+use Rattle.std.proofs.Common.{get_or, drop, take, length, arith, refl, sym, ap, subst, ◌∙◌}
 use Rattle.std.proofs.lemmas.Bool.{cases_eq, cases_lt}
 use Rattle.std.proofs.lemmas.Bool.Decides.{nat_tests}
-use Rattle.std.proofs.lemmas.List.{drop_more}
+use Rattle.std.proofs.lemmas.List.{drop_more, take_more}
 use Rattle.recording.specs.Order.{times}
 use Rattle.recording.specs.OrderLaws.{times_append, times_here, times_there, times_nil}
 use Rattle.long.specs.Chains.{seconds_in, times_listed, HaveFirstsBelow}
@@ -131,6 +131,13 @@ listed_at (x ∷ xs) (suc i) low =
         )
       ]
     ]
+
+-- as many pairs as before it, and itself, stand in the list as far as the next place
+pub times_more : (xs : List (ℕ × ℕ)) (i : ℕ) → i < length xs → (d e : ℕ) → times_listed (take (i + 1) xs) d e
+    ≡ times_listed (take i xs) d e + times_listed (get_or xs i (0, 0) ∷ []) d e
+times_more xs i low d e =
+    ap (λ (ps : List (ℕ × ℕ)). times_listed ps d e) (take_more xs i (0, 0) low)
+    ∙ times_put (take i xs) (get_or xs i (0, 0)) d e
 
 -- its first event is below n, as all are
 pub first_below : (xs : List (ℕ × ℕ)) (i n : ℕ) → i < length xs → HaveFirstsBelow xs n → (get_or xs i (0, 0)).0 < n

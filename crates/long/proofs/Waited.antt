@@ -1,27 +1,21 @@
 -- How often events wait, as the pairs of a list are counted.
-use Rattle.std.proofs.Common.{◌≡◌, ◌≢◌, ◌<◌, ◌+◌, ℕ, List, [], ◌∷◌, take, get_or, length, arith, refl, sym, ap, ◌∙◌}
-use Rattle.std.proofs.lemmas.List.{take_more}
+use Rattle.std.proofs.Common.{◌≡◌, ◌≢◌, ◌<◌, ◌+◌, ℕ, List, [], take, get_or, length, arith, refl, sym, ap, ◌∙◌}
 use Rattle.recording.specs.Order.{times}
 use Rattle.recording.specs.OrderLaws.{times_here, times_nil, times_there}
 use Rattle.order.specs.Open.{waits}
 use Rattle.long.specs.Chains.{seconds_in, times_listed}
 use Rattle.long.proofs.Counted.{waits_more}
-use Rattle.long.proofs.Listed.{listed_here, listed_none, listed_there, times_put}
+use Rattle.long.proofs.Listed.{listed_here, listed_none, listed_there, times_more}
 
 module _ (xs : List (ℕ × ℕ)) (i n : ℕ) (low : i < length xs) (first : (get_or xs i (0, 0)).0 < n) where
   abbrev p : ℕ × ℕ
   p = get_or xs i (0, 0)
 
-  -- the pair stands once more
-  listed : (d f : ℕ) → times_listed (take (i + 1) xs) d f ≡ times_listed (take i xs) d f + times_listed (p ∷ []) d f
-  listed d f =
-      ap (λ (ps : List (ℕ × ℕ)). times_listed ps d f) (take_more xs i (0, 0) low) ∙ times_put (take i xs) p d f
-
   -- of other first events there are as many pairs
   others : (f d : ℕ) → d ≢ p.0 → times_listed (take (i + 1) xs) d f ≡ times_listed (take i xs) d f
   others f d apart = omega (
     arith,
-    listed d f,
+    times_more xs i low d f,
     ap (λ (s : List ℕ). times s f) (listed_there [] p d (λ same. apart (sym same)) ∙ listed_none d),
     times_nil f,
   )
@@ -31,7 +25,7 @@ module _ (xs : List (ℕ × ℕ)) (i n : ℕ) (low : i < length xs) (first : (ge
       ≡ waits (times_listed (take i xs)) [] n (get_or xs i (0, 0)).1 + 1
   wait_once = waits_more (times_listed (take (i + 1) xs)) (times_listed (take i xs)) p.0 p.1 1 (others p.1) (omega (
     arith,
-    listed p.0 p.1,
+    times_more xs i low p.0 p.1,
     ap (λ (s : List ℕ). times s p.1) (listed_here [] p p.0 refl),
     times_here (seconds_in [] p.0) p.1 p.1 refl,
     ap (λ (s : List ℕ). times s p.1) (listed_none p.0),
@@ -43,7 +37,7 @@ module _ (xs : List (ℕ × ℕ)) (i n : ℕ) (low : i < length xs) (first : (ge
       → waits (times_listed (take (i + 1) xs)) [] n f ≡ waits (times_listed (take i xs)) [] n f + 0
   wait_other f apart = waits_more (times_listed (take (i + 1) xs)) (times_listed (take i xs)) p.0 f 0 (others f) (omega (
     arith,
-    listed p.0 f,
+    times_more xs i low p.0 f,
     ap (λ (s : List ℕ). times s f) (listed_here [] p p.0 refl),
     times_there (seconds_in [] p.0) p.1 f apart,
     ap (λ (s : List ℕ). times s f) (listed_none p.0),

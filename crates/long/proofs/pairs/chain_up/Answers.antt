@@ -7,7 +7,7 @@ use Rattle.recording.specs.OrderLaws.{times_nil}
 use Rattle.order.specs.Open.{waits}
 use Rattle.order.proofs.Waits.{waits_none}
 use Rattle.long.specs.Chains.{times_listed}
-use Rattle.long.proofs.Chained.{AreChained, chained_none, chained_more, chained_each}
+use Rattle.long.proofs.Chained.{AreChained, chained_none, chained_more, chained_each, first_next, second_next}
 use Rattle.long.proofs.Counted.{open_all, open_same}
 use Rattle.long.proofs.Listed.{first_below, listed_none, second_below}
 use Rattle.long.proofs.Waited.{wait_once, wait_other}
@@ -35,49 +35,31 @@ loop-place-init c =
 
 pub bounds-heads-first : goal.bounds-heads-first
 bounds-heads-first c =
-    let i = c.loop-place.place in
     let was = c.loop-place.invariant in
-    omega (
-      arith,
-      ap (λ (p : ℕ × ℕ). p.0) (was.chained.others i (omega arith)),
-      first_below c.args.list.now i (length c.args.heads.now) c.loop-place-test.true c.requires.firsts,
-      was.size,
-    )
+    let next = first_next c.args.list.now c.loop-place.place c.loop-place.heads c.loop-place.list was.chained
+    (length c.args.heads.now) c.loop-place-test.true c.requires.firsts in
+    omega (arith, next, was.size)
 
 pub bounds-heads-first-in-loop-place : goal.bounds-heads-first-in-loop-place
 bounds-heads-first-in-loop-place c =
-    let i = c.loop-place.place in
     let was = c.loop-place.invariant in
-    omega (
-      arith,
-      ap (λ (p : ℕ × ℕ). p.0) (was.chained.others i (omega arith)),
-      first_below c.args.list.now i (length c.args.heads.now) c.loop-place-test.true c.requires.firsts,
-      was.size,
-    )
+    let next = first_next c.args.list.now c.loop-place.place c.loop-place.heads c.loop-place.list was.chained
+    (length c.args.heads.now) c.loop-place-test.true c.requires.firsts in
+    omega (arith, next, was.size)
 
 pub bounds-counts-second : goal.bounds-counts-second
 bounds-counts-second c =
-    let i = c.loop-place.place in
     let was = c.loop-place.invariant in
-    omega (
-      arith,
-      ap (λ (p : ℕ × ℕ). p.1) (was.chained.others i (omega arith)),
-      second_below c.args.list.now i (length c.args.counts.now) c.loop-place-test.true c.requires.seconds,
-      was.room,
-      c.requires.size,
-    )
+    let next = second_next c.args.list.now c.loop-place.place c.loop-place.heads c.loop-place.list was.chained
+    (length c.args.counts.now) c.loop-place-test.true c.requires.seconds in
+    omega (arith, next, was.room, c.requires.size)
 
 pub bounds-counts-second-in-loop-place : goal.bounds-counts-second-in-loop-place
 bounds-counts-second-in-loop-place c =
-    let i = c.loop-place.place in
     let was = c.loop-place.invariant in
-    omega (
-      arith,
-      ap (λ (p : ℕ × ℕ). p.1) (was.chained.others i (omega arith)),
-      second_below c.args.list.now i (length c.args.counts.now) c.loop-place-test.true c.requires.seconds,
-      was.room,
-      c.requires.size,
-    )
+    let next = second_next c.args.list.now c.loop-place.place c.loop-place.heads c.loop-place.list was.chained
+    (length c.args.counts.now) c.loop-place-test.true c.requires.seconds in
+    omega (arith, next, was.room, c.requires.size)
 
 pub loop-place-preserved : goal.loop-place-preserved
 loop-place-preserved c =
