@@ -23,8 +23,7 @@ fn room_after(len: usize) -> usize {
     len.saturating_add(len / 8 + 4)
 }
 
-/// A list, which has room for this many items at first, or for none where it is empty. What it has more than its items
-/// need is given back: the next list begins there, and fewer pages of memory are touched.
+/// A list, which has room for this many items at first, or for none where it is empty.
 #[inline(never)]
 fn take_list_in<K: Kind>(
     alloc: Global,
@@ -50,7 +49,6 @@ fn take_list_in<K: Kind>(
         K::hold(&mut found, item, size)?;
         if !take_sign(rest, b',') {
             if take_sign(rest, b']') {
-                found.shrink_to_fit();
                 return Ok(Some(found));
             }
             return Ok(None);

@@ -60,5 +60,5 @@ returns-then-take_sign-2 g c depth =
           (c.if-not-take_sign-2.ensures.kept refl) (c.if-take_sign-2.ensures.found refl))
           (opens_array c.args.rest.now c.take_sign.new.rest c.take_sign-2.new.rest
           (c.if-not-take_sign.ensures.found refl) (c.if-take_sign.ensures.kept refl)),
-      rw c.shrink_to_fit.ensures.items (c.in_ok-hold.ensures before.0 before.2),
+      c.in_ok-hold.ensures before.0 before.2,
     )
