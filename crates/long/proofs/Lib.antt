@@ -12,6 +12,7 @@ pub mod Befores
 pub mod Placed
 pub mod Ordered
 pub mod Listed
+pub mod PairsOf
 pub mod Chained
 pub mod Counted
 pub mod Rests

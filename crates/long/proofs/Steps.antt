@@ -1,8 +1,9 @@
 -- The events that stand right before others.
-use Rattle.std.proofs.Common.{◌≡◌, ◌≢◌, ◌<◌, ◌≤◌, ◌+◌, ◌⊎◌, inl, inr, ℕ, Bool, true, false, cond, List}
+use Rattle.std.proofs.Common.{◌≡◌, ◌≢◌, ◌<◌, ◌≤◌, ◌+◌, ◌⊎◌, inl, inr, ℕ, Bool, true, false, List}
 use Rattle.std.proofs.Common.{Option, Some, None, get_or, length, arith, refl, sym, ap, subst, ◌∙◌}
 use Rattle.std.proofs.lemmas.Bool.{cases_eq, cases_lt}
 use Rattle.std.proofs.lemmas.List.{get_or_default, get_or_past}
+use Rattle.recording.specs.Event.{is_plain_load, is_plain_store}
 use Rattle.recording.specs.Execution.{Execution, event_count, event_at, write_list, ProgramOrder, Reads, Writes}
 use Rattle.recording.specs.Execution.{source_of}
 use Rattle.recording.specs.Order.{place}
@@ -14,28 +15,103 @@ use Rattle.relations.specs.declared.indexed.IndexedEvent.{IndexedEvent}
 use Rattle.relations.specs.Direct.{is_passed, IsFirstNewer, IsNextWrite}
 use Rattle.relations.specs.declared.reason.Reason.{Reason}
 use Rattle.relations.specs.declared.reason.Reason.TheVariants.{Po, Wo, Rf, Fr}
-use Rattle.relations.specs.Forced.{Forced, Holds, IsNewerFrom, IsOlder}
+use Rattle.relations.specs.Forced.{Forced, Holds, IsCoreStart, IsNewerFrom, IsOlder}
 use Rattle.relations.specs.Indexed.{IsIndexed}
-use Rattle.long.specs.Steps.{IsLast}
+use Rattle.long.specs.Steps.{IsLast, IsLastFrom, MayBeLastOther, MayBeLastStore}
+
+-- before its first event a core has none
+pub last_store_none : (x : Execution) (start : ℕ) → MayBeLastStore x start None start
+last_store_none x start d h = omega (arith, h.0.0, h.0.1)
+
+pub last_other_none : (x : Execution) (start : ℕ) → MayBeLastOther x start None start
+last_other_none x start d h = omega (arith, h.0, h.1)
 
 -- the last event before the next is this one, or it was the last before this one, which is passed over
-pub last_split : (x : Execution) (loads : Bool) (d e : ℕ) → IsLast x loads d (e + 1)
-    → ((d ≡ e) × (is_passed loads (event_at x e) ≡ false)) ⊎ ((is_passed loads (event_at x e) ≡ true) × IsLast x loads d e)
-last_split x loads d e h = elim (cases_eq d e) [
-  | inl one ↦ inl (one, subst (λ (g : ℕ). is_passed loads (event_at x g) ≡ false) one h.1)
+last_split : (x : Execution) (start : ℕ) (loads : Bool) (d e : ℕ) → IsLastFrom x start loads d (e + 1)
+    → ((d ≡ e) × (is_passed loads (event_at x e) ≡ false))
+    ⊎ ((is_passed loads (event_at x e) ≡ true) × IsLastFrom x start loads d e)
+last_split x start loads d e h = elim (cases_eq d e) [
+  | inl one ↦ inl (one, subst (λ (g : ℕ). is_passed loads (event_at x g) ≡ false) one h.2)
   | inr other ↦
-      let low : d < e = (let l : d < e + 1 = h.0 in omega (arith, l, other)) in
-      inr (h.2 e low (omega arith), (low, h.1, (λ g after before. h.2 g after (omega (arith, before)))))
+      let low : d < e = (let l : d < e + 1 = h.1 in omega (arith, l, other)) in
+      inr (h.3 e low (omega arith), (h.0, low, h.2, (λ g after before. h.3 g after (omega (arith, before)))))
 ]
 
--- so the next is the last, unless it is passed over
-pub last_next : (x : Execution) (loads : Bool) (n last new : ℕ) (passed : Bool) → passed ≡ is_passed loads (event_at x n)
-    → new ≡ cond passed last n → ((d : ℕ) → IsLast x loads d n → last ≡ d) → (d : ℕ) → IsLast x loads d (n + 1)
-    → new ≡ d
-last_next x loads n last new passed is made was d h = elim (last_split x loads d n h) [
-  | inl here ↦ made ∙ ap (λ (b : Bool). cond b last n) (is ∙ here.1) ∙ sym here.0
-  | inr before ↦ made ∙ ap (λ (b : Bool). cond b last n) (is ∙ before.0) ∙ was d before.1
+-- an event that is passed over leaves the last one
+last_passed : (x : Execution) (start : ℕ) (loads : Bool) (d e : ℕ) → is_passed loads (event_at x e) ≡ true
+    → IsLastFrom x start loads d e → IsLastFrom x start loads d (e + 1)
+last_passed x start loads d e passed h = (
+  h.0,
+  (let l : d < e = h.1 in omega (arith, l)),
+  h.2,
+  λ g after before. elim (cases_eq g e) [
+    | inl one ↦ subst (λ (k : ℕ). is_passed loads (event_at x k) ≡ true) (sym one) passed
+    | inr other ↦ h.3 g after (omega (arith, before, other))
+  ],
+)
+
+-- any other is the last before the next
+last_here : (x : Execution) (start : ℕ) (loads : Bool) (e : ℕ) → start ≤ e → is_passed loads (event_at x e) ≡ false
+    → IsLastFrom x start loads e (e + 1)
+last_here x start loads e from kept = (from, omega arith, kept, (λ g after before. absurd (omega (arith, after, before))))
+
+-- with an event that is a plain load the last store stays
+pub last_store_passed : (x : Execution) (start : ℕ) (last : Option ℕ) (e : ℕ) → is_plain_load (event_at x e) ≡ true
+    → MayBeLastStore x start last e → MayBeLastStore x start last (e + 1)
+last_store_passed x start None e load none = λ d h. elim (last_split x start true d e h.0) [
+  | inl here ↦ absurd (let no : true ≡ false = sym load ∙ here.1 in cc)
+  | inr before ↦ none d (before.1, h.1)
 ]
+last_store_passed x start (Some s) e load last = (last_passed x start true s e load last.0, last.1)
+
+-- a plain store is the last
+pub last_store_here : (x : Execution) (start e : ℕ) → start ≤ e → is_plain_load (event_at x e) ≡ false
+    → is_plain_store (event_at x e) ≡ true → MayBeLastStore x start (Some e) (e + 1)
+last_store_here x start e from free store = (last_here x start true e from free, store)
+
+-- with any other there is none
+pub last_store_gone : (x : Execution) (start e : ℕ) → is_plain_load (event_at x e) ≡ false
+    → is_plain_store (event_at x e) ≡ false → MayBeLastStore x start None (e + 1)
+last_store_gone x start e free other = λ d h. elim (last_split x start true d e h.0) [
+  | inl here ↦ absurd (let no : true ≡ false =
+      sym h.1 ∙ (ap (λ (k : ℕ). is_plain_store (event_at x k)) here.0 ∙ other) in cc)
+  | inr before ↦ absurd (let no : true ≡ false = sym before.0 ∙ free in cc)
+]
+
+-- with a plain store the last other event stays
+pub last_other_passed : (x : Execution) (start : ℕ) (last : Option ℕ) (e : ℕ) → is_plain_store (event_at x e) ≡ true
+    → MayBeLastOther x start last e → MayBeLastOther x start last (e + 1)
+last_other_passed x start None e store none = λ d h. elim (last_split x start false d e h) [
+  | inl here ↦ absurd (let no : true ≡ false = sym store ∙ here.1 in cc)
+  | inr before ↦ none d before.1
+]
+last_other_passed x start (Some s) e store last = last_passed x start false s e store last
+
+-- any other event is the last
+pub last_other_here : (x : Execution) (start e : ℕ) → start ≤ e → is_plain_store (event_at x e) ≡ false
+    → MayBeLastOther x start (Some e) (e + 1)
+last_other_here x start e from other = last_here x start false e from other
+
+-- there is one last event
+pub last_one : (x : Execution) (start : ℕ) (loads : Bool) (d g e : ℕ) → IsLastFrom x start loads d e
+    → IsLastFrom x start loads g e → d ≡ g
+last_one x start loads d g e hd hg = elim (cases_eq d g) [
+  | inl one ↦ one
+  | inr other ↦ elim (cases_lt d g) [
+    | inl before ↦ absurd (let no : true ≡ false = sym (hd.3 g before hg.1) ∙ hg.2 in cc)
+    | inr past ↦ absurd (let no : true ≡ false = sym (hg.3 d (omega (arith, past, other)) hd.1) ∙ hd.2 in cc)
+  ]
+]
+
+-- it is the last from the first event of its core on
+pub last_from : (x : Execution) (start : ℕ) (loads : Bool) (d e : ℕ) → IsCoreStart x start e → IsLast x loads d e
+    → IsLastFrom x start loads d e
+last_from x start loads d e core h = let own = (core d).0 h.0 in (own.0, own.1, h.1, h.2)
+
+-- which is in program order
+pub last_own : (x : Execution) (start : ℕ) (loads : Bool) (d e : ℕ) → IsCoreStart x start e
+    → IsLastFrom x start loads d e → ProgramOrder x d e
+last_own x start loads d e core h = (core d).1 (h.0, h.1)
 
 -- each read has one first newer write, which is an event
 pub one_newer : (x : Execution) → IsWellFormed x → (r v w : ℕ) → IsFirstNewer x r v → IsFirstNewer x r w → v ≡ w

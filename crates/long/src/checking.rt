@@ -10,7 +10,7 @@ use crate::linking::link_all;
 use crate::newest::overlook;
 use common::{EventId, OutOfMemory};
 use recording::Recording;
-use relations::{Places, forced_is_exact};
+use relations::forced_is_exact;
 use std::alloc::Global;
 
 /// For each number below a count its place in a list that has each once and nothing else; none for any other list.
@@ -72,7 +72,6 @@ pub fn is_tso_order(
     if let Some(_found) = overlook(alloc, recording)? {
         return Ok(false);
     }
-    let places = Places::of(alloc, recording)?;
-    let linked = link_all(alloc, &places)?;
+    let linked = link_all(alloc, recording)?;
     Ok(all_follow(&linked.list, &positions))
 }

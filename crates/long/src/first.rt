@@ -37,9 +37,8 @@ pub fn first_order<'a>(
     if let Some((load, store)) = overlook(alloc, recording)? {
         return Ok(FirstOrder::Overlook(load, store));
     }
-    let places = Places::of(alloc, recording)?;
-    match sort(alloc, &places)? {
+    match sort(alloc, recording)? {
         Sorted::Ordered(order) => Ok(FirstOrder::Order(order)),
-        Sorted::Blocked(left) => Ok(FirstOrder::Cyclic(places, left)),
+        Sorted::Blocked(left) => Ok(FirstOrder::Cyclic(Places::of(alloc, recording)?, left)),
     }
 }

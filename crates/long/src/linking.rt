@@ -1,75 +1,24 @@
 //! The forced pairs from which all others follow.
 
-ghost use Rattle.std.specs.Prelude.{◌≡◌, ◌≢◌, ◌≤◌, ◌<◌, ◌+◌, ◌*◌, ◌↔◌, ◌⊎◌, ℕ, Some, Bool, cond, IfOk, IsTrue};
-ghost use Rattle.std.specs.Prelude.{MatchOption, [], length};
-ghost use Rattle.recording.specs.Event.{is_plain_store};
-ghost use Rattle.recording.specs.Execution.{Execution, event_at, event_count, source_of, ProgramOrder};
+ghost use Rattle.std.specs.Prelude.{◌≡◌, ◌≤◌, ◌<◌, ◌+◌, ◌*◌, ◌↔◌, ℕ, [], IfOk, IsTrue, length};
+ghost use Rattle.recording.specs.Execution.{Execution, event_count, ProgramOrder};
 ghost use Rattle.order.specs.Open.{IsOpen};
-ghost use Rattle.relations.specs.Direct.{IsFirstNewer, IsNextWrite};
 ghost use Rattle.relations.specs.Forced.{Forced, IsCoreStart};
+ghost use Rattle.relations.specs.Indexed.{IsIndexed};
 ghost use Rattle.long.specs.Chains.{times_kept, times_listed};
 ghost use Rattle.long.specs.Linked.{IsLinked};
-ghost use Rattle.long.specs.Steps.{IsStep};
+ghost use Rattle.long.specs.Steps.{IsStep, MayBeLastStore, MayBeLastOther};
 
 use crate::pairs::Pairs;
-use common::{EventId, OutOfMemory};
-use relations::Places;
+use common::{CoreId, EventId, OutOfMemory};
+use recording::{Event, Recording};
+use relations::{IndexedEvent, indexed_event};
 use std::alloc::Global;
 
 /// Pairs of events, in the order in which they were put.
 #[derive(Drop)]
 pub(crate) struct Linked {
     pub(crate) list: Vec<(EventId, EventId)>,
-}
-
-/// The source of an event; none where it has none.
-fn source_of(places: &Places<'_>, event: EventId) -> Option<EventId>
-    requires { event < event_count places.now }
-    ensures { result ≡ source_of places.now event }
-{
-    places.event(event as usize).source
-}
-
-/// The write after an event in its write list, if it writes and there is one.
-fn write_after(places: &Places<'_>, event: EventId) -> Option<EventId>
-    requires { event < event_count places.now }
-    ensures { MatchOption result ((d : ℕ) → ¬ IsNextWrite places.now event d)
-        (λ w. IsNextWrite places.now event w × ((d : ℕ) → IsNextWrite places.now event d → d ≡ w)) }
-{
-    let placed = places.event(event as usize);
-    let Some(_) = placed.writes else {
-        return None;
-    };
-    if placed.next == event {
-        return None;
-    }
-    Some(placed.next)
-}
-
-/// The first write that is newer than the source of an event, if it reads and there is one that is not itself.
-fn first_newer(places: &Places<'_>, event: EventId) -> Option<EventId>
-    requires { event < event_count places.now }
-    ensures { MatchOption result ((w : ℕ) → IsFirstNewer places.now event w → w ≡ event)
-        (λ w. IsFirstNewer places.now event w × (w ≢ event)
-        × ((v : ℕ) → IsFirstNewer places.now event v → v ≡ w)) }
-{
-    let placed = places.event(event as usize);
-    let Some(_) = placed.reads else {
-        return None;
-    };
-    if placed.first_newer == event {
-        return None;
-    }
-    Some(placed.first_newer)
-}
-
-/// Whether an event is after the first one of a core, on that core.
-fn is_after(places: &Places<'_>, start: EventId, event: EventId) -> bool
-    requires order { start ≤ event }
-    requires event { event < event_count places.now }
-    ensures { IsTrue result ↔ ProgramOrder places.now start event }
-{
-    start < event && places.event(start as usize).core == places.event(event as usize).core
 }
 
 /// Whether an event is earlier than another on the core of that one, whose first event this is.
@@ -79,40 +28,41 @@ fn is_earlier(start: EventId, first: EventId, second: EventId) -> bool
     start <= first && first < second
 }
 
-/// Whether memory order keeps an event before a later one of its core.
-fn is_kept(places: &Places<'_>, first: EventId, second: EventId) -> bool
-    requires { ProgramOrder places.now first second }
-    ensures { IsTrue result ↔ Forced places.now first second }
+/// The last event of a core that is no plain load, if it is a plain store, after one more event.
+fn last_store(last: Option<EventId>, event: &IndexedEvent) -> Option<EventId>
+    ensures { (x : Execution) (start : ℕ) → IsIndexed x event.now → start ≤ event.now.number
+        → MayBeLastStore x start last event.now.number → MayBeLastStore x start result (event.now.number + 1) }
 {
-    !(places.event(first as usize).is_store && places.event(second as usize).is_load)
-}
-
-/// Whether an event is a plain store.
-fn is_store(places: &Places<'_>, number: EventId) -> bool
-    ensures { number < event_count places.now → result ≡ is_plain_store (event_at places.now number) }
-{
-    if number as usize >= places.len() {
-        return false;
+    if event.is_load {
+        return last;
     }
-    places.event(number as usize).is_store
+    if event.is_store {
+        return Some(event.number);
+    }
+    None
 }
 
-/// An event, or the last one where it is passed over.
-fn last_of(is_passed: bool, last: EventId, event: EventId) -> EventId
-    ensures { result ≡ cond is_passed last event }
+/// The last event of a core that is no plain store, after one more event.
+fn last_other(last: Option<EventId>, event: &IndexedEvent) -> Option<EventId>
+    ensures { (x : Execution) (start : ℕ) → IsIndexed x event.now → start ≤ event.now.number
+        → MayBeLastOther x start last event.now.number → MayBeLastOther x start result (event.now.number + 1) }
 {
-    if is_passed { last } else { event }
+    if event.is_store {
+        return last;
+    }
+    Some(event.number)
 }
 
 impl Linked {
-    ghost use Rattle.std.specs.Prelude.{◌≡◌, ◌≤◌, ◌<◌, ◌+◌, ℕ, [], Some, true, false, IfOk, IsTrue, OnOk, length};
-    ghost use Rattle.recording.specs.Event.{is_plain_store};
-    ghost use Rattle.recording.specs.Execution.{event_at, event_count, source_of};
-    ghost use Rattle.relations.specs.Direct.{IsFirstNewer, IsNextWrite};
-    ghost use Rattle.relations.specs.Forced.{Forced, IsCoreStart};
+    ghost use Rattle.std.specs.Prelude.{◌≡◌, ◌≤◌, ◌<◌, ◌+◌, ◌*◌, ℕ, [], false, IfOk, OnOk, length};
+    ghost use Rattle.recording.specs.Execution.{core_of};
+    ghost use Rattle.relations.specs.declared.reason.Reason.TheVariants.{Rf};
+    ghost use Rattle.relations.specs.Direct.{IsNextWrite};
+    ghost use Rattle.relations.specs.Forced.{Forced, Holds, IsCoreStart};
+    ghost use Rattle.relations.specs.Indexed.{AreFrom, IsIndexed};
     ghost use Rattle.long.specs.Chains.{times_listed};
-    ghost use Rattle.long.specs.Linked.{IsLinked, IsRightBefore, KeepsPairs};
-    ghost use Rattle.long.specs.Steps.{IsLast};
+    ghost use Rattle.long.specs.Linked.{HasPairsOf, IsLinked, KeepsPairs};
+    ghost use Rattle.long.specs.Steps.{IsLast, IsLastStore, IsNewerStep, MayBeLastOther, MayBeLastStore};
 
     /// No pair, with room for three of each of these events.
     fn none(alloc: Global, count: usize) -> Result<Linked, OutOfMemory>
@@ -125,14 +75,14 @@ impl Linked {
     /// Puts a pair that is forced.
     fn put_forced(
         &mut self,
-        _places: &Places<'_>,
+        _recording: &Recording,
         first: EventId,
         second: EventId,
     ) -> Result<(), OutOfMemory>
-        requires forced { Forced _places.now first second }
-        requires linked { IsLinked _places.now self.old }
+        requires forced { Forced _recording.now first second }
+        requires linked { IsLinked _recording.now self.old }
         ensures few { OnOk result (length self.new.list.items ≤ length self.old.list.items + 1) }
-        ensures linked { OnOk result (IsLinked _places.now self.new) }
+        ensures linked { OnOk result (IsLinked _recording.now self.new) }
         ensures kept { OnOk result (KeepsPairs self.old self.new) }
         ensures here { OnOk result (0 < times_listed self.new.list.items first second) }
     {
@@ -140,201 +90,208 @@ impl Linked {
         Ok(())
     }
 
-    /// Puts a pair if it is forced, which looks at both events.
-    fn put_if_forced(
-        &mut self,
-        places: &Places<'_>,
-        first: EventId,
-        second: EventId,
-    ) -> Result<(), OutOfMemory>
-        requires linked { IsLinked places.now self.old }
-        ensures few { OnOk result (length self.new.list.items ≤ length self.old.list.items + 1) }
-        ensures linked { OnOk result (IsLinked places.now self.new) }
-        ensures kept { OnOk result (KeepsPairs self.old self.new) }
-        ensures here { OnOk result (Forced places.now first second
-            → 0 < times_listed self.new.list.items first second) }
-    {
-        places.sound();
-        if !places.forces(first, second) {
-            return Ok(());
-        }
-        self.put_forced(places, first, second)
-    }
-
-    /// Puts the pair of an event and one that is earlier on its core, if memory order keeps it; any other pair as
-    /// `put_if_forced` does.
-    fn put_earlier(
-        &mut self,
-        places: &Places<'_>,
-        first: EventId,
-        second: EventId,
-        start: EventId,
-    ) -> Result<(), OutOfMemory>
-        requires second { second < event_count places.now }
-        requires start { IsCoreStart places.now start second }
-        requires linked { IsLinked places.now self.old }
-        ensures few { OnOk result (length self.new.list.items ≤ length self.old.list.items + 1) }
-        ensures linked { OnOk result (IsLinked places.now self.new) }
-        ensures kept { OnOk result (KeepsPairs self.old self.new) }
-        ensures here { OnOk result (Forced places.now first second
-            → 0 < times_listed self.new.list.items first second) }
-    {
-        places.sound();
-        if !is_earlier(start, first, second) {
-            return self.put_if_forced(places, first, second);
-        }
-        if !is_kept(places, first, second) {
-            return Ok(());
-        }
-        self.put_forced(places, first, second)
-    }
-
-    /// Does what `put_earlier` does, where the first event is a plain store.
+    /// Puts the pair of an event and the last event before it on its core that is no plain load, if that is a plain
+    /// store and memory order keeps it before. The first event of the core is given.
     fn put_store(
         &mut self,
-        places: &Places<'_>,
-        first: EventId,
-        second: EventId,
+        recording: &Recording,
+        event: &IndexedEvent,
         start: EventId,
+        store: Option<EventId>,
     ) -> Result<(), OutOfMemory>
-        requires second { second < event_count places.now }
-        requires start { IsCoreStart places.now start second }
-        requires linked { IsLinked places.now self.old }
+        requires event { IsIndexed recording.now event.now }
+        requires start { IsCoreStart recording.now start event.now.number }
+        requires store { MayBeLastStore recording.now start store event.now.number }
+        requires linked { IsLinked recording.now self.old }
         ensures few { OnOk result (length self.new.list.items ≤ length self.old.list.items + 1) }
-        ensures linked { OnOk result (IsLinked places.now self.new) }
+        ensures linked { OnOk result (IsLinked recording.now self.new) }
         ensures kept { OnOk result (KeepsPairs self.old self.new) }
-        ensures here { OnOk result (is_plain_store (event_at places.now first) ≡ true → Forced places.now first second
-            → 0 < times_listed self.new.list.items first second) }
+        ensures here { OnOk result ((d : ℕ) → IsLastStore recording.now d event.now.number
+            → Forced recording.now d event.now.number → 0 < times_listed self.new.list.items d event.now.number) }
     {
-        places.sound();
-        if !is_store(places, first) {
-            return Ok(());
-        }
-        self.put_earlier(places, first, second, start)
-    }
-
-    /// Puts the pair of an event and its source, if it has one and it is forced. The first event of its core is given.
-    fn put_source(
-        &mut self,
-        places: &Places<'_>,
-        event: EventId,
-        start: EventId,
-    ) -> Result<(), OutOfMemory>
-        requires event { event < event_count places.now }
-        requires start { IsCoreStart places.now start event }
-        requires linked { IsLinked places.now self.old }
-        ensures few { OnOk result (length self.new.list.items ≤ length self.old.list.items + 1) }
-        ensures linked { OnOk result (IsLinked places.now self.new) }
-        ensures kept { OnOk result (KeepsPairs self.old self.new) }
-        ensures source { OnOk result ((d : ℕ) → source_of places.now event ≡ Some d → Forced places.now d event
-            → 0 < times_listed self.new.list.items d event) }
-    {
-        places.sound();
-        let Some(source) = source_of(places, event) else {
+        let Some(first) = store else {
             return Ok(());
         };
-        if is_earlier(start, source, event) {
-            return self.put_earlier(places, source, event, start);
+        if event.is_load {
+            return Ok(());
         }
-        self.put_forced(places, source, event)
+        self.put_forced(recording, first, event.number)
     }
 
-    /// Puts the forced pairs of which an event is the second, but for those of writes that it is next to and of reads
-    /// that it is newer for. Given are the first event of its core, and the last before it that is no plain load, and
-    /// no plain store, where there are such.
-    fn put_before(
+    /// Puts the pair of an event and the last event before it on its core that is no plain store. The first event of
+    /// the core is given.
+    fn put_other(
         &mut self,
-        places: &Places<'_>,
-        event: EventId,
+        recording: &Recording,
+        event: &IndexedEvent,
         start: EventId,
-        nonload: EventId,
-        nonstore: EventId,
+        other: Option<EventId>,
     ) -> Result<(), OutOfMemory>
-        requires event { event < event_count places.now }
-        requires start { IsCoreStart places.now start event }
-        requires nonload { (d : ℕ) → IsLast places.now true d event → nonload ≡ d }
-        requires nonstore { (d : ℕ) → IsLast places.now false d event → nonstore ≡ d }
-        requires linked { IsLinked places.now self.old }
-        ensures few { OnOk result (length self.new.list.items ≤ length self.old.list.items + 3) }
-        ensures linked { OnOk result (IsLinked places.now self.new) }
-        ensures kept { OnOk result (KeepsPairs self.old self.new) }
-        ensures before { OnOk result ((d : ℕ) → IsRightBefore places.now d event → Forced places.now d event
-            → 0 < times_listed self.new.list.items d event) }
-    {
-        places.sound();
-        self.put_store(places, nonload, event, start)?;
-        self.put_earlier(places, nonstore, event, start)?;
-        self.put_source(places, event, start)?;
-        Ok(())
-    }
-
-    /// Puts the pair of an event and the write after it in its write list, if there is one.
-    fn put_next(&mut self, places: &Places<'_>, event: EventId) -> Result<(), OutOfMemory>
-        requires event { event < event_count places.now }
-        requires linked { IsLinked places.now self.old }
+        requires event { IsIndexed recording.now event.now }
+        requires start { IsCoreStart recording.now start event.now.number }
+        requires other { MayBeLastOther recording.now start other event.now.number }
+        requires linked { IsLinked recording.now self.old }
         ensures few { OnOk result (length self.new.list.items ≤ length self.old.list.items + 1) }
-        ensures linked { OnOk result (IsLinked places.now self.new) }
+        ensures linked { OnOk result (IsLinked recording.now self.new) }
         ensures kept { OnOk result (KeepsPairs self.old self.new) }
-        ensures next { OnOk result ((w : ℕ) → IsNextWrite places.now event w
-            → 0 < times_listed self.new.list.items event w) }
+        ensures here { OnOk result ((d : ℕ) → IsLast recording.now false d event.now.number
+            → 0 < times_listed self.new.list.items d event.now.number) }
     {
-        places.sound();
-        match write_after(places, event) {
-            Some(write) => self.put_forced(places, event, write),
+        match other {
+            Some(first) => self.put_forced(recording, first, event.number),
             None => Ok(()),
         }
     }
 
-    /// Puts the pair of an event and the first write that is newer than its source, if there is one and it is forced.
-    /// The first event of its core is given.
-    fn put_newer(
+    /// Puts the pair of an event and its source, if it has one that is not before it on its core. The first event of
+    /// the core is given.
+    fn put_source(
         &mut self,
-        places: &Places<'_>,
-        event: EventId,
+        recording: &Recording,
+        event: &IndexedEvent,
         start: EventId,
     ) -> Result<(), OutOfMemory>
-        requires event { event < event_count places.now }
-        requires start { IsCoreStart places.now start event }
-        requires linked { IsLinked places.now self.old }
+        requires event { IsIndexed recording.now event.now }
+        requires start { IsCoreStart recording.now start event.now.number }
+        requires linked { IsLinked recording.now self.old }
         ensures few { OnOk result (length self.new.list.items ≤ length self.old.list.items + 1) }
-        ensures linked { OnOk result (IsLinked places.now self.new) }
+        ensures linked { OnOk result (IsLinked recording.now self.new) }
         ensures kept { OnOk result (KeepsPairs self.old self.new) }
-        ensures newer { OnOk result ((w : ℕ) → IsFirstNewer places.now event w → Forced places.now event w
-            → 0 < times_listed self.new.list.items event w) }
+        ensures here { OnOk result ((d : ℕ) → Holds recording.now Rf d event.now.number
+            → 0 < times_listed self.new.list.items d event.now.number) }
     {
-        places.sound();
-        let Some(write) = first_newer(places, event) else {
+        let Some(source) = event.source else {
             return Ok(());
         };
-        if is_earlier(start, write, event) {
-            return self.put_if_forced(places, event, write);
+        if is_earlier(start, source, event.number) {
+            return Ok(());
         }
-        self.put_forced(places, event, write)
+        self.put_forced(recording, source, event.number)
+    }
+
+    /// Puts the pair of an event and the write after it in its write list, if there is one.
+    fn put_next(&mut self, recording: &Recording, event: &IndexedEvent) -> Result<(), OutOfMemory>
+        requires event { IsIndexed recording.now event.now }
+        requires linked { IsLinked recording.now self.old }
+        ensures few { OnOk result (length self.new.list.items ≤ length self.old.list.items + 1) }
+        ensures linked { OnOk result (IsLinked recording.now self.new) }
+        ensures kept { OnOk result (KeepsPairs self.old self.new) }
+        ensures here { OnOk result ((w : ℕ) → IsNextWrite recording.now event.now.number w
+            → 0 < times_listed self.new.list.items event.now.number w) }
+    {
+        let Some(_) = event.writes else {
+            return Ok(());
+        };
+        if event.next == event.number {
+            return Ok(());
+        }
+        self.put_forced(recording, event.number, event.next)
+    }
+
+    /// Puts the pair of an event and the first write that is newer than its source, if there is one that is neither the
+    /// event nor before it on its core. The first event of the core is given.
+    fn put_newer(
+        &mut self,
+        recording: &Recording,
+        event: &IndexedEvent,
+        start: EventId,
+    ) -> Result<(), OutOfMemory>
+        requires event { IsIndexed recording.now event.now }
+        requires start { IsCoreStart recording.now start event.now.number }
+        requires linked { IsLinked recording.now self.old }
+        ensures few { OnOk result (length self.new.list.items ≤ length self.old.list.items + 1) }
+        ensures linked { OnOk result (IsLinked recording.now self.new) }
+        ensures kept { OnOk result (KeepsPairs self.old self.new) }
+        ensures here { OnOk result ((w : ℕ) → IsNewerStep recording.now event.now.number w
+            → 0 < times_listed self.new.list.items event.now.number w) }
+    {
+        let Some(_) = event.reads else {
+            return Ok(());
+        };
+        let newer = event.first_newer;
+        if newer == event.number {
+            return Ok(());
+        }
+        if is_earlier(start, newer, event.number) {
+            return Ok(());
+        }
+        self.put_forced(recording, event.number, newer)
+    }
+
+    /// Puts the forced pairs that are listed with an event. Given are the first event of its core, and the last ones
+    /// before it there: the one that is no plain load, if it is a plain store, and the one that is no plain store.
+    fn put_event(
+        &mut self,
+        recording: &Recording,
+        event: &IndexedEvent,
+        start: EventId,
+        store: Option<EventId>,
+        other: Option<EventId>,
+    ) -> Result<(), OutOfMemory>
+        requires event { IsIndexed recording.now event.now }
+        requires start { IsCoreStart recording.now start event.now.number }
+        requires store { MayBeLastStore recording.now start store event.now.number }
+        requires other { MayBeLastOther recording.now start other event.now.number }
+        requires linked { IsLinked recording.now self.old }
+        ensures few { OnOk result (length self.new.list.items ≤ length self.old.list.items + 5) }
+        ensures linked { OnOk result (IsLinked recording.now self.new) }
+        ensures kept { OnOk result (KeepsPairs self.old self.new) }
+        ensures here { OnOk result (HasPairsOf recording.now event.now.number self.new) }
+    {
+        self.put_store(recording, event, start, store)?;
+        self.put_other(recording, event, start, other)?;
+        self.put_source(recording, event, start)?;
+        self.put_next(recording, event)?;
+        self.put_newer(recording, event, start)?;
+        Ok(())
+    }
+
+    /// Puts the forced pairs that are listed with the events of a core, which are numbered from `start` on.
+    fn put_core(
+        &mut self,
+        recording: &Recording,
+        core: CoreId,
+        events: &[Event],
+        start: EventId,
+    ) -> Result<(), OutOfMemory>
+        requires events { AreFrom recording.now start events.now }
+        requires core { (i : ℕ) → i < length events.now → core_of recording.now (start + i) ≡ core }
+        requires few { length self.old.list.items ≤ 5 * start }
+        requires linked { IsLinked recording.now self.old }
+        ensures few { OnOk result (length self.new.list.items ≤ 5 * (start + length events.now)) }
+        ensures linked { OnOk result (IsLinked recording.now self.new) }
+        ensures kept { OnOk result (KeepsPairs self.old self.new) }
+        ensures here { OnOk result ((i : ℕ) → i < length events.now → HasPairsOf recording.now (start + i) self.new) }
+    {
+        recording.sound();
+        let mut store = None;
+        let mut other = None;
+        for place in 0..events.len() {
+            let number = start + place as EventId;
+            let event = indexed_event(recording, core, &events[place], number);
+            self.put_event(recording, &event, start, store, other)?;
+            store = last_store(store, &event);
+            other = last_other(other, &event);
+        }
+        Ok(())
     }
 }
 
 /// The forced pairs of a recording from which all others follow where no read overlooks a store, at most five for each
 /// event.
-pub(crate) fn link_all(alloc: Global, places: &Places<'_>) -> Result<Linked, OutOfMemory>
-    ensures few { IfOk result (λ l. length l.list.items ≤ 5 * event_count places.now) }
-    ensures linked { IfOk result (IsLinked places.now) }
-    ensures enough { IfOk result (λ l. (d e : ℕ) → IsStep places.now d e → 0 < times_listed l.list.items d e) }
+pub(crate) fn link_all(alloc: Global, recording: &Recording) -> Result<Linked, OutOfMemory>
+    ensures few { IfOk result (λ l. length l.list.items ≤ 5 * event_count recording.now) }
+    ensures linked { IfOk result (IsLinked recording.now) }
+    ensures enough { IfOk result (λ l. (d e : ℕ) → IsStep recording.now d e
+        → 0 < times_listed l.list.items d e) }
 {
-    places.sound();
-    let mut linked = Linked::none(alloc, places.len())?;
+    recording.sound();
+    let mut linked = Linked::none(alloc, recording.len())?;
     let mut start = 0;
-    let mut nonload = 0;
-    let mut nonstore = 0;
-    for number in 0..places.len() as EventId {
-        if !is_after(places, start, number) {
-            start = number;
-        }
-        linked.put_before(places, number, start, nonload, nonstore)?;
-        linked.put_next(places, number)?;
-        linked.put_newer(places, number, start)?;
-        let event = places.event(number as usize);
-        nonload = last_of(event.is_load, nonload, number);
-        nonstore = last_of(event.is_store, nonstore, number);
+    for core in 0..recording.cores().len() {
+        let events = &recording.cores()[core];
+        linked.put_core(recording, core as CoreId, events, start)?;
+        start += events.len() as EventId;
     }
     Ok(linked)
 }
@@ -343,15 +300,15 @@ pub(crate) fn link_all(alloc: Global, places: &Places<'_>) -> Result<Linked, Out
 /// pair.
 pub(crate) fn link_chains(
     alloc: Global,
-    places: &Places<'_>,
+    recording: &Recording,
 ) -> Result<(Pairs, Vec<u32>), OutOfMemory>
-    ensures size { IfOk result (λ r. length r.0.heads ≡ event_count places.now) }
-    ensures few { IfOk result (λ r. length r.0.links ≤ 5 * event_count places.now) }
-    ensures forced { IfOk result (λ r. (d e : ℕ) → 0 < times_kept r.0 d e → Forced places.now d e) }
-    ensures enough { IfOk result (λ r. (d e : ℕ) → IsStep places.now d e → 0 < times_kept r.0 d e) }
-    ensures open { IfOk result (λ r. IsOpen (times_kept r.0) (event_count places.now) [] r.1.items) }
+    ensures size { IfOk result (λ r. length r.0.heads ≡ event_count recording.now) }
+    ensures few { IfOk result (λ r. length r.0.links ≤ 5 * event_count recording.now) }
+    ensures forced { IfOk result (λ r. (d e : ℕ) → 0 < times_kept r.0 d e → Forced recording.now d e) }
+    ensures enough { IfOk result (λ r. (d e : ℕ) → IsStep recording.now d e → 0 < times_kept r.0 d e) }
+    ensures open { IfOk result (λ r. IsOpen (times_kept r.0) (event_count recording.now) [] r.1.items) }
 {
-    places.sound();
-    let linked = link_all(alloc, places)?;
-    Pairs::of(alloc, linked.list, places.len())
+    recording.sound();
+    let linked = link_all(alloc, recording)?;
+    Pairs::of(alloc, linked.list, recording.len())
 }

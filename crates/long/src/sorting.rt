@@ -8,7 +8,7 @@ use crate::linking::link_chains;
 use crate::pairs::Pairs;
 use crate::waiting::Waiting;
 use common::{EventId, OutOfMemory};
-use relations::Places;
+use recording::Recording;
 use std::alloc::Global;
 
 /// Forced pairs, and events that are left open, each of which is the second of a pair of one of them.
@@ -29,14 +29,14 @@ pub(crate) enum Sorted {
 
 /// The first of the orders that have the forced pairs in order, where no read overlooks a store, or the events that are
 /// left.
-pub(crate) fn sort(alloc: Global, places: &Places<'_>) -> Result<Sorted, OutOfMemory>
-    ensures { IfOk result (λ sorted. HasNoOverlook places.now → IsSorted places.now sorted) }
+pub(crate) fn sort(alloc: Global, recording: &Recording) -> Result<Sorted, OutOfMemory>
+    ensures { IfOk result (λ sorted. HasNoOverlook recording.now → IsSorted recording.now sorted) }
 {
-    places.sound();
-    let (pairs, counts) = link_chains(alloc, places)?;
+    recording.sound();
+    let (pairs, counts) = link_chains(alloc, recording)?;
     let mut waiting = Waiting::of(alloc, counts)?;
-    let mut order = Vec::with_capacity(alloc, places.len())?;
-    for placed in 0..places.len() {
+    let mut order = Vec::with_capacity(alloc, recording.len())?;
+    for placed in 0..recording.len() {
         let Some(event) = waiting.take() else {
             return Ok(Sorted::Blocked(Unsorted { pairs, waiting }));
         };

@@ -1,6 +1,6 @@
-use Rattle.std.proofs.Common.{◌≡◌, ◌<◌, ℕ, List, length, arith, ap, sym, subst}
+use Rattle.std.proofs.Common.{◌<◌, ℕ, List, length, arith, ap, sym, subst}
 use Rattle.recording.specs.Order.{Enumerates}
-use Rattle.recording.specs.Execution.{Execution, event_count}
+use Rattle.recording.specs.Execution.{event_count}
 use Rattle.relations.specs.Consistency.{HasNoOverlook}
 use Rattle.relations.specs.Forced.{Forced}
 use Rattle.relations.specs.ForcedLaws.{forced_within}
@@ -14,10 +14,9 @@ pub all_follow-requires : goal.all_follow-requires
 all_follow-requires c =
     let x = c.args.recording.now in
     let found = rw c.in-Some.is at c.in_ok-positions.ensures in
-    let same : c.in_ok-places.places ≡ x = c.in_ok-places.ensures in
     λ d f some. let put : 0 < times_listed c.in_ok-linked.linked.list.items d f =
     subst (λ (l : List (ℕ × ℕ)). 0 < times_listed l d f) c.deref.ensures.value some in
-    let forced : Forced x d f = subst (λ (y : Execution). Forced y d f) same (c.in_ok-linked.ensures.linked d f put) in
+    let forced : Forced x d f = c.in_ok-linked.ensures.linked d f put in
     let within = forced_within x c.sound.ensures.well_formed forced.0 d f forced.1 in (
       omega (arith, within.0, c.len.ensures, found.1.size, ap (λ (l : List ℕ). length l) c.deref-2.ensures.value),
       omega (arith, within.1, c.len.ensures, found.1.size, ap (λ (l : List ℕ). length l) c.deref-2.ensures.value),
@@ -32,15 +31,12 @@ returns c =
     let at : Enumerates (λ e. e < event_count x) m × ArePositions m (event_count x) v =
     subst (λ (n : ℕ). Enumerates (λ e. e < n) m × ArePositions m n v) c.len.ensures found in
     let list : List (ℕ × ℕ) = c.deref.result.now in
-    let same : c.in_ok-places.places ≡ x = c.in_ok-places.ensures in
     let forced : (d e : ℕ) → 0 < times_listed list d e → Forced x d e =
     subst (λ (l : List (ℕ × ℕ)). (d e : ℕ) → 0 < times_listed l d e → Forced x d e) (sym c.deref.ensures.value)
-    (subst (λ (y : Execution). (d e : ℕ) → 0 < times_listed c.in_ok-linked.linked.list.items d e → Forced y d e) same
-    c.in_ok-linked.ensures.linked) in
+    c.in_ok-linked.ensures.linked in
     let enough : (d e : ℕ) → IsStep x d e → 0 < times_listed list d e =
     subst (λ (l : List (ℕ × ℕ)). (d e : ℕ) → IsStep x d e → 0 < times_listed l d e) (sym c.deref.ensures.value)
-    (subst (λ (y : Execution). (d e : ℕ) → IsStep y d e → 0 < times_listed c.in_ok-linked.linked.list.items d e) same
-    c.in_ok-linked.ensures.enough) in
+    c.in_ok-linked.ensures.enough in
     let none : HasNoOverlook x = rw c.in_default-2.is at c.in_ok-_found.ensures in
     let checked = order_is_checked x m c.deref-2.result.now list c.sound.ensures.well_formed
     none at.0

@@ -1,6 +1,6 @@
-use Rattle.std.proofs.Common.{◌≡◌, ℕ, Option, subst}
+use Rattle.std.proofs.Common.{ℕ, Option, subst}
 use Rattle.std.specs.Prelude.{MatchOption}
-use Rattle.recording.specs.Execution.{Execution, event_count}
+use Rattle.recording.specs.Execution.{event_count}
 use Rattle.relations.specs.Consistency.{HasNoOverlook}
 use Rattle.relations.specs.Forced.{IsLeastOverlook}
 use Rattle.long.specs.declared.sorting.Sorted.{Sorted}
@@ -12,12 +12,10 @@ use Rattle.long.proofs.first.first_order.Goals as goal
 pub returns-in-Ordered : goal.returns-in-Ordered
 returns-in-Ordered c =
     let x = c.args.recording.now in
-    let same : c.in_ok-places.places ≡ x = c.in_ok-places.ensures in
     let none : HasNoOverlook x = subst (λ (o : Option (ℕ × ℕ)). MatchOption o (HasNoOverlook x)
     (λ p. IsLeastOverlook x p.0 p.1)) c.in_default.is c.in_ok-load.ensures in
     let sorted : IsSorted x (Ordered c.in-Ordered.order) =
-    subst (λ (s : Sorted). IsSorted x s) c.in-Ordered.is
-    (subst (λ (y : Execution). HasNoOverlook y → IsSorted y c.in_ok-order.field-0) same c.in_ok-order.ensures none) in
+    subst (λ (s : Sorted). IsSorted x s) c.in-Ordered.is (c.in_ok-order.ensures none) in
     let m = c.in-Ordered.order.items in
     record {
       order = c.forced_is_exact.ensures.enough x m c.sound.ensures.well_formed none sorted.respects;
@@ -28,16 +26,14 @@ returns-in-Ordered c =
       no_cycle = c.ordered_is_acyclic.ensures.forced x (event_count x) m sorted.respects;
     }
 
-pub returns : goal.returns
-returns c =
+pub returns-in_ok-of-in-Blocked : goal.returns-in_ok-of-in-Blocked
+returns-in_ok-of-in-Blocked c =
     let x = c.args.recording.now in
-    let same : c.in_ok-places.places ≡ x = c.in_ok-places.ensures in
     let none : HasNoOverlook x = subst (λ (o : Option (ℕ × ℕ)). MatchOption o (HasNoOverlook x)
     (λ p. IsLeastOverlook x p.0 p.1)) c.in_default.is c.in_ok-load.ensures in
-    let left = subst (λ (s : Sorted). IsSorted x s) c.in-Blocked.is
-    (subst (λ (y : Execution). HasNoOverlook y → IsSorted y c.in_ok-order.field-0) same c.in_ok-order.ensures none) in
+    let left = subst (λ (s : Sorted). IsSorted x s) c.in-Blocked.is (c.in_ok-order.ensures none) in
     let cycle = left_cycle x c.in-Blocked.left left in (
-      same,
+      c.in_ok-of-in-Blocked.ensures,
       left,
       cycle,
       none,

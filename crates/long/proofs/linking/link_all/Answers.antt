@@ -1,132 +1,115 @@
-use Rattle.std.proofs.Common.{◌<◌, inl, inr, ℕ, true, false, List, length, arith, sym, subst, ap, ◌∙◌}
-use Rattle.std.proofs.lemmas.Bool.{cases_eq}
-use Rattle.recording.specs.Execution.{event_at, event_count}
-use Rattle.relations.proofs.Cores.{core_next, core_so_far, core_start}
-use Rattle.relations.specs.Direct.{is_passed, IsFirstNewer, IsNextWrite}
-use Rattle.relations.specs.Forced.{Forced}
-use Rattle.relations.specs.ForcedLaws.{forced_within}
-use Rattle.long.specs.Chains.{times_listed}
-use Rattle.long.specs.Linked.{IsRightBefore}
+use Rattle.std.proofs.Common.{◌≡◌, ◌<◌, ◌≤◌, ◌+◌, ◌-◌, inl, inr, ℕ, List, Vec, Global, length, map, arith, ap, sym, subst}
+use Rattle.std.proofs.lemmas.Bool.{cases_lt}
+use Rattle.std.proofs.lemmas.List.{length-map}
+use Rattle.recording.specs.declared.event.Event.{Event}
+use Rattle.recording.specs.Execution.{Execution, event_count}
+use Rattle.relations.specs.Indexed.{AreFrom, events_below}
+use Rattle.relations.proofs.Indexing.{below_all, below_more, core_from, core_here, event_here}
+use Rattle.long.specs.Linked.{HasPairsOf}
+use Rattle.long.proofs.PairsOf.{pairs_kept, step_listed}
 use Rattle.long.proofs.Listed.{times_none}
-use Rattle.long.proofs.Steps.{last_next}
 use Rattle.long.proofs.linking.link_all.Goals as goal
-use Rattle.long.proofs.linking.link_all.Goals.{then-not-is_after, else-not-is_after}
 
-pub loop-number-init : goal.loop-number-init
-loop-number-init c = record {
+-- a core that the vectors of cores have
+core_there : (x : Execution) (vs : List (Vec Event Global)) (core : ℕ) → core < length vs
+    → map (λ (w : Vec Event Global). w.items) vs ≡ x.cores → core < length x.cores
+core_there x vs core low is =
+    omega (arith, low, ap (λ (cs : List (List Event)). length cs) is, length-map vs (λ w. w.items))
+
+pub loop-core-init : goal.loop-core-init
+loop-core-init c = record {
+  start = omega arith;
   few = omega (arith, ap (λ (l : List (ℕ × ℕ)). length l) c.in_ok-linked.ensures);
   linked = λ d e some. absurd (omega (arith, some, times_none c.in_ok-linked.linked.list.items c.in_ok-linked.ensures d e));
-  core = core_start c.args.places.now;
-  nonload = λ d h. absurd (omega (arith, h.0));
-  nonstore = λ d h. absurd (omega (arith, h.0));
-  before = λ d e low. absurd (omega arith);
-  next = λ d e low. absurd (omega arith);
-  newer = λ e w low. absurd (omega arith);
+  here = λ e none. absurd (omega (arith, none));
 }
 
-pub loop-number-preserved : goal.loop-number-preserved
-loop-number-preserved c =
-    let x = c.args.places.now in
-    let n = c.loop-number.number in
-    let made = c.in_ok-put_before.ensures in
-    let next = c.in_ok-put_next.ensures in
-    let more = c.in_ok-put_newer.ensures in
-    let was = c.loop-number.invariant in
-    let new = c.put_newer.new.self.list.items in
-    let event : n < event_count x = omega (arith, c.loop-number-test.true, c.len-number-end.ensures) in
-    let core =
-    core_next x c.loop-number.start n c.if-not-is_after.start c.is_after.result event c.loop-number.invariant.core
-    c.is_after.ensures (elim c.if-not-is_after.branch [
-      | then-not-is_after w ↦ inl (w.if-not-is_after.true, w.start-is)
-      | else-not-is_after w ↦ inr (w.if-not-is_after.false, w.start-is)
-    ]) in
+pub put_core-requires-clause-events : goal.put_core-requires-clause-events
+put_core-requires-clause-events c =
+    let x = c.args.recording.now in
+    let core = c.loop-core.core in
+    let own = c.index-cores-core.result in
+    let there = core_there x c.cores-core-end.result.now core c.loop-core-test.true c.cores-core-end.ensures in
+    let from = core_from x c.cores.result.now core own c.cores.ensures there c.index-cores-core.is in
+    subst (λ (es : List Event). AreFrom x c.loop-core.start es) (sym c.deref.ensures.value)
+    (subst (λ (n : ℕ). AreFrom x n own.items) (sym c.loop-core.invariant.start) from)
+
+pub put_core-requires-clause-core : goal.put_core-requires-clause-core
+put_core-requires-clause-core c = λ i low.
+    let x = c.args.recording.now in
+    let core = c.loop-core.core in
+    let own = c.index-cores-core.result in
+    let there = core_there x c.cores-core-end.result.now core c.loop-core-test.true c.cores-core-end.ensures in
+    (event_here x c.cores.result.now core own c.cores.ensures there c.index-cores-core.is i (c.loop-core.start + i)
+    (omega (arith, low, ap (λ (es : List Event). length es) c.deref.ensures.value))
+    (ap (λ (n : ℕ). n + i) c.loop-core.invariant.start)).1
+
+pub overflow_cast-start : goal.overflow_cast-start
+overflow_cast-start c =
+    let x = c.args.recording.now in
+    let core = c.loop-core.core in
+    let own = c.index-cores-core.result in
+    let there = core_there x c.cores-core-end.result.now core c.loop-core-test.true c.cores-core-end.ensures in
+    let from = core_from x c.cores.result.now core own c.cores.ensures there c.index-cores-core.is in
+    let few = from.within in
+    grind (arith, few, c.sound.ensures.within.few_events, c.len-in-loop-core.ensures, own.ok.0)
+
+pub overflow_add-start : goal.overflow_add-start
+overflow_add-start c =
+    let x = c.args.recording.now in
+    let core = c.loop-core.core in
+    let own = c.index-cores-core.result in
+    let there = core_there x c.cores-core-end.result.now core c.loop-core-test.true c.cores-core-end.ensures in
+    let from = core_from x c.cores.result.now core own c.cores.ensures there c.index-cores-core.is in
+    let few = from.within in
+    grind (arith, few, c.loop-core.invariant.start, c.sound.ensures.within.few_events, c.len-in-loop-core.ensures, own.ok.0)
+
+pub loop-core-preserved : goal.loop-core-preserved
+loop-core-preserved c =
+    let x = c.args.recording.now in
+    let core = c.loop-core.core in
+    let own = c.index-cores-core.result in
+    let was = c.loop-core.invariant in
+    let put = c.in_ok-put_core.ensures in
+    let there = core_there x c.cores-core-end.result.now core c.loop-core-test.true c.cores-core-end.ensures in
+    let next : events_below x (core + 1) ≡ events_below x core + length own.items =
+    below_more x core own.items there (core_here x c.cores.result.now core own c.cores.ensures there c.index-cores-core.is) in
+    let size : c.len-in-loop-core.result ≡ length own.items = omega (arith, c.len-in-loop-core.ensures, own.ok.0) in
+    let after : c.loop-core.start + length c.deref.result.now ≡ c.loop-core.start + c.len-in-loop-core.result =
+    omega (arith, size, ap (λ (es : List Event). length es) c.deref.ensures.value) in
     record {
-      few = omega (arith, more.few, next.few, made.few, was.few);
-      linked = more.linked;
-      core = core.1;
-      nonload = last_next x true n c.loop-number.nonload c.last_of-nonload.result c.event-event.result.now.is_load
-          (c.event-event.ensures.place.is_load
-          ∙ ap (λ (k : ℕ). is_passed true (event_at x k)) c.event-event.ensures.number)
-          c.last_of-nonload.ensures was.nonload;
-      nonstore = last_next x false n c.loop-number.nonstore c.last_of-nonstore.result c.event-event.result.now.is_store
-          (c.event-event.ensures.place.is_store
-          ∙ ap (λ (k : ℕ). is_passed false (event_at x k)) c.event-event.ensures.number)
-          c.last_of-nonstore.ensures was.nonstore;
-      before = λ d e low right forced. elim (cases_eq n e) [
-        | inl one ↦ subst (λ (k : ℕ). 0 < times_listed new d k) one (more.kept d n (next.kept d n
-            (made.before d (subst (λ (k : ℕ). IsRightBefore x d k) (sym one) right)
-            (subst (λ (k : ℕ). Forced x d k) (sym one) forced))))
-        | inr other ↦ more.kept d e (next.kept d e
-            (made.kept d e (was.before d e (omega (arith, low, other)) right forced)))
-      ];
-      next = λ d e low is. elim (cases_eq n d) [
-        | inl one ↦ subst (λ (k : ℕ). 0 < times_listed new k e) one
-            (more.kept n e (next.next e (subst (λ (k : ℕ). IsNextWrite x k e) (sym one) is)))
-        | inr other ↦ more.kept d e (next.kept d e (made.kept d e (was.next d e (omega (arith, low, other)) is)))
-      ];
-      newer = λ e w low first forced. elim (cases_eq n e) [
-        | inl one ↦ subst (λ (k : ℕ). 0 < times_listed new k w) one
-            (more.newer w (subst (λ (k : ℕ). IsFirstNewer x k w) (sym one) first)
-            (subst (λ (k : ℕ). Forced x k w) (sym one) forced))
-        | inr other ↦ more.kept e w (next.kept e w
-            (made.kept e w (was.newer e w (omega (arith, low, other)) first forced)))
+      start = omega (arith, next, size, was.start);
+      few = omega (arith, put.few, after);
+      linked = put.linked;
+      here = λ e low. elim (cases_lt e c.loop-core.start) [
+        | inl before ↦ pairs_kept x e c.loop-core.linked c.put_core.new.self put.kept (was.here e before)
+        | inr past ↦
+            let number : c.loop-core.start + (e - c.loop-core.start) ≡ e = omega (arith, past) in
+            subst (λ (k : ℕ). HasPairsOf x k c.put_core.new.self) number
+            (put.here (e - c.loop-core.start) (omega (arith, past, low, after)))
       ];
     }
 
+pub returns-clause-few : goal.returns-clause-few
+returns-clause-few c =
+    let x = c.args.recording.now in
+    let past : length x.cores ≤ c.loop-core.core = omega (
+      arith,
+      c.loop-core-test.false,
+      ap (λ (cs : List (List Event)). length cs) c.cores-core-end.ensures,
+      length-map c.cores-core-end.result.now (λ w. w.items),
+    ) in
+    omega (arith, c.loop-core.invariant.few, c.loop-core.invariant.start, below_all x c.loop-core.core past)
+
 pub returns-clause-enough : goal.returns-clause-enough
-returns-clause-enough c = λ d e step.
-    let x = c.args.places.now in
-    let was = c.loop-number.invariant in
-    let within = forced_within x c.sound.ensures.well_formed step.1.0 d e step.1.1 in
-    let second : e < c.loop-number.number = omega (
+returns-clause-enough c =
+    let x = c.args.recording.now in
+    let past : length x.cores ≤ c.loop-core.core = omega (
       arith,
-      within.1,
-      c.loop-number-test.false,
-      c.len-number-end.ensures,
+      c.loop-core-test.false,
+      ap (λ (cs : List (List Event)). length cs) c.cores-core-end.ensures,
+      length-map c.cores-core-end.result.now (λ w. w.items),
     ) in
-    let first : d < c.loop-number.number = omega (
-      arith,
-      within.0,
-      c.loop-number-test.false,
-      c.len-number-end.ensures,
-    ) in
-    elim step.0 [
-      | inl load ↦ was.before d e second (inl load) step.1
-      | inr more ↦ elim more [
-        | inl store ↦ was.before d e second (inr (inl store)) step.1
-        | inr rest ↦ elim rest [
-          | inl source ↦ was.before d e second (inr (inr source)) step.1
-          | inr last ↦ elim last [
-            | inl next ↦ was.next d e first next
-            | inr newer ↦ was.newer d e first newer step.1
-          ]
-        ]
-      ]
-    ]
-
-pub is_after-requires-clause-order : goal.is_after-requires-clause-order
-is_after-requires-clause-order c = c.loop-number.invariant.core.from
-
-pub put_before-requires-clause-start : goal.put_before-requires-clause-start
-put_before-requires-clause-start c =
-    let x = c.args.places.now in
-    let n = c.loop-number.number in
-    let event : n < event_count x = omega (arith, c.loop-number-test.true, c.len-number-end.ensures) in
-    core_so_far x c.if-not-is_after.start n event
-    (core_next x c.loop-number.start n c.if-not-is_after.start c.is_after.result event c.loop-number.invariant.core
-    c.is_after.ensures (elim c.if-not-is_after.branch [
-      | then-not-is_after w ↦ inl (w.if-not-is_after.true, w.start-is)
-      | else-not-is_after w ↦ inr (w.if-not-is_after.false, w.start-is)
-    ]))
-
-pub put_newer-requires-clause-start : goal.put_newer-requires-clause-start
-put_newer-requires-clause-start c =
-    let x = c.args.places.now in
-    let n = c.loop-number.number in
-    let event : n < event_count x = omega (arith, c.loop-number-test.true, c.len-number-end.ensures) in
-    core_so_far x c.if-not-is_after.start n event
-    (core_next x c.loop-number.start n c.if-not-is_after.start c.is_after.result event c.loop-number.invariant.core
-    c.is_after.ensures (elim c.if-not-is_after.branch [
-      | then-not-is_after w ↦ inl (w.if-not-is_after.true, w.start-is)
-      | else-not-is_after w ↦ inr (w.if-not-is_after.false, w.start-is)
-    ]))
+    let all : events_below x c.loop-core.core ≡ event_count x = below_all x c.loop-core.core past in
+    step_listed x c.sound.ensures.well_formed c.loop-core.linked
+    (λ e low. c.loop-core.invariant.here e (omega (arith, low, all, c.loop-core.invariant.start)))

@@ -11,7 +11,7 @@ use Rattle.long.proofs.sorting.sort.Goals as goal
 
 pub loop-placed-init : goal.loop-placed-init
 loop-placed-init c =
-    let n : ℕ = event_count c.args.places.now in
+    let n : ℕ = event_count c.args.recording.now in
     let p = c.in_ok-pairs.pairs in
     let none : c.in_ok-order.order.items ≡ [] = c.in_ok-order.ensures.items in
     record {
@@ -25,11 +25,11 @@ loop-placed-init c =
     }
 
 pub returns-in_default : goal.returns-in_default
-returns-in_default c = λ _. subst (λ (l : List ℕ). IsLeft c.args.places.now (record {
+returns-in_default c = λ _. subst (λ (l : List ℕ). IsLeft c.args.recording.now (record {
   pairs = c.loop-placed.pairs;
   waiting = l;
 })) (sym c.in_default.ensures.counts)
-    (events_left c.args.places.now c.sound.ensures c.loop-placed.pairs
+    (events_left c.args.recording.now c.sound.ensures c.loop-placed.pairs
     c.loop-placed.order.items c.loop-placed.waiting c.loop-placed.invariant.forced c.loop-placed.invariant.greedy
     c.loop-placed.invariant.waiting c.in_default.ensures.free
     (omega (arith, c.loop-placed.invariant.size, c.loop-placed-test.true, c.len-placed-end.ensures)))
@@ -37,7 +37,7 @@ returns-in_default c = λ _. subst (λ (l : List ℕ). IsLeft c.args.places.now 
 pub place-requires-clause-within : goal.place-requires-clause-within
 place-requires-clause-within c = λ f some. omega (
   arith,
-  (pairs_within c.args.places.now c.sound.ensures.well_formed c.loop-placed.pairs c.loop-placed.invariant.forced
+  (pairs_within c.args.recording.now c.sound.ensures.well_formed c.loop-placed.pairs c.loop-placed.invariant.forced
       c.in-Some.event f some).1,
   c.loop-placed.invariant.waiting.size,
   ap (λ (l : List ℕ). length l) c.in-Some.ensures.counts,
@@ -46,7 +46,7 @@ place-requires-clause-within c = λ f some. omega (
 
 pub place-requires-clause-open : goal.place-requires-clause-open
 place-requires-clause-open c =
-    let x = c.args.places.now in
+    let x = c.args.recording.now in
     let p = c.loop-placed.pairs in
     let v = c.in-Some.event in
     let free = c.in-Some.ensures.free in
@@ -58,7 +58,7 @@ place-requires-clause-open c =
 
 pub loop-placed-preserved : goal.loop-placed-preserved
 loop-placed-preserved c =
-    let x = c.args.places.now in
+    let x = c.args.recording.now in
     let n : ℕ = event_count x in
     let p = c.loop-placed.pairs in
     let v = c.in-Some.event in
@@ -89,7 +89,7 @@ loop-placed-preserved c =
     }
 
 pub returns : goal.returns
-returns c = λ none. first_order c.args.places.now c.sound.ensures.well_formed none c.loop-placed.pairs
+returns c = λ none. first_order c.args.recording.now c.sound.ensures.well_formed none c.loop-placed.pairs
     c.loop-placed.order.items c.loop-placed.invariant.forced c.loop-placed.invariant.enough
     c.loop-placed.invariant.greedy (omega (
       arith,

@@ -10,8 +10,8 @@ use Rattle.long.proofs.sorting.sort.Given as goal
 abbrev pub invariant-loop-placed : goal.invariant-loop-placed
 invariant-loop-placed l = record {
   size : length l.order.items ≡ l.placed;
-  forced : (d e : ℕ) → 0 < times_kept l.pairs d e → Forced l.places d e;
-  enough : (d e : ℕ) → IsStep l.places d e → 0 < times_kept l.pairs d e;
-  greedy : IsGreedy (times_kept l.pairs) (event_count l.places) l.order.items;
-  waiting : IsOpen (times_kept l.pairs) (event_count l.places) l.order.items l.waiting;
+  forced : (d e : ℕ) → 0 < times_kept l.pairs d e → Forced l.recording d e;
+  enough : (d e : ℕ) → IsStep l.recording d e → 0 < times_kept l.pairs d e;
+  greedy : IsGreedy (times_kept l.pairs) (event_count l.recording) l.order.items;
+  waiting : IsOpen (times_kept l.pairs) (event_count l.recording) l.order.items l.waiting;
 }

@@ -6,7 +6,7 @@ use Rattle.long.proofs.linking.Linked.put_forced.Goals as goal
 
 pub returns-clause-linked : goal.returns-clause-linked
 returns-clause-linked c =
-    let x = c.args._places.now in
+    let x = c.args._recording.now in
     subst (λ (l : List (ℕ × ℕ)). (d e : ℕ) → 0 < times_listed l d e → Forced x d e) (sym c.in_ok-push.ensures.items)
     (put_each (Forced x) c.args.self.now.list.items c.args.first c.args.second c.requires.linked c.requires.forced)
 

@@ -1,42 +1,44 @@
-use Rattle.std.proofs.Common.{◌≡◌, ◌<◌, ℕ, sym, subst}
+use Rattle.std.proofs.Common.{◌≡◌, ◌<◌, ◌∙◌, ℕ, sym, subst}
 use Rattle.std.proofs.lemmas.Bool.{iff_false}
 use Rattle.std.proofs.lemmas.Result.{on_ok_weaker}
-use Rattle.relations.specs.Direct.{IsFirstNewer}
-use Rattle.relations.specs.Forced.{Forced}
+use Rattle.recording.specs.Execution.{ProgramOrder}
 use Rattle.long.specs.Chains.{times_listed}
-use Rattle.long.proofs.Steps.{newer_forced, newer_itself}
+use Rattle.long.proofs.Steps.{newer_forced, newer_found, newer_none, newer_said}
 use Rattle.long.proofs.linking.Linked.put_newer.Goals as goal
 
-pub returns-then-is_earlier-clause-newer : goal.returns-then-is_earlier-clause-newer
-returns-then-is_earlier-clause-newer c =
-    let x = c.args.places.now in
-    let e = c.args.event in
-    let new = c.put_if_forced.new.self in
-    on_ok_weaker c.put_if_forced.result
-    (λ put w h forced.
-    let only : w ≡ c.in-Some.write = c.in-Some.ensures.2 w h in
-    subst (λ (k : ℕ). 0 < times_listed new.list.items e k) (sym only) (put (subst (λ (k : ℕ). Forced x e k) only forced)))
-    c.put_if_forced.ensures.here
+pub returns-in_default-clause-here : goal.returns-in_default-clause-here
+returns-in_default-clause-here c w h =
+    absurd (newer_none c.args.recording.now c.args.event.now w c.requires.event c.in_default.is h.0)
+
+pub returns-then-newer-event-clause-here : goal.returns-then-newer-event-clause-here
+returns-then-newer-event-clause-here c w h =
+    let x = c.args.recording.now in
+    let p = c.args.event.now in
+    absurd (h.1 (newer_said x p c.in-Some.field-0 w c.requires.event c.in-Some.is h.0 ∙ c.if-newer-event.true))
+
+pub returns-then-is_earlier-clause-here : goal.returns-then-is_earlier-clause-here
+returns-then-is_earlier-clause-here c w h =
+    let x = c.args.recording.now in
+    let p = c.args.event.now in
+    let only : w ≡ p.first_newer = newer_said x p c.in-Some.field-0 w c.requires.event c.in-Some.is h.0 in
+    absurd (h.2 (subst (λ (k : ℕ). ProgramOrder x k p.number) (sym only)
+    ((c.is_earlier.ensures x c.requires.start).0 c.if-is_earlier.true)))
 
 pub put_forced-requires-clause-forced : goal.put_forced-requires-clause-forced
 put_forced-requires-clause-forced c =
-    newer_forced c.args.places.now c.sound.ensures.well_formed c.args.event c.in-Some.write c.in-Some.ensures.0
-    c.in-Some.ensures.1 (iff_false (c.is_earlier.ensures c.args.places.now c.requires.start) c.if-is_earlier.false)
+    let x = c.args.recording.now in
+    let p = c.args.event.now in
+    newer_forced x c.requires.event.well_formed p.number p.first_newer
+    (newer_found x p c.in-Some.field-0 c.requires.event c.in-Some.is c.if-newer-event.false)
+    c.if-newer-event.false (iff_false (c.is_earlier.ensures x c.requires.start) c.if-is_earlier.false)
 
-pub returns-clause-newer : goal.returns-clause-newer
-returns-clause-newer c =
-    let e = c.args.event in
+pub returns-clause-here : goal.returns-clause-here
+returns-clause-here c =
+    let x = c.args.recording.now in
+    let p = c.args.event.now in
     let new = c.put_forced.new.self in
     on_ok_weaker c.put_forced.result
-    (λ put w h forced.
-    let only : w ≡ c.in-Some.write = c.in-Some.ensures.2 w h in
-    subst (λ (k : ℕ). 0 < times_listed new.list.items e k) (sym only) put)
+    (λ put w h.
+    let only : w ≡ p.first_newer = newer_said x p c.in-Some.field-0 w c.requires.event c.in-Some.is h.0 in
+    subst (λ (k : ℕ). 0 < times_listed new.list.items p.number k) (sym only) put)
     c.put_forced.ensures.here
-
-pub returns-in_default-clause-newer : goal.returns-in_default-clause-newer
-returns-in_default-clause-newer c w h forced =
-    let x = c.args.places.now in
-    let e = c.args.event in
-    let itself : w ≡ e = c.in_default.ensures w h in
-    absurd (newer_itself x c.sound.ensures.well_formed e (subst (λ (k : ℕ). IsFirstNewer x e k) itself h)
-    (subst (λ (k : ℕ). Forced x e k) itself forced))
