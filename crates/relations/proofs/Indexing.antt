@@ -1,9 +1,10 @@
 -- The events of the cores, which are indexed core by core.
-use Rattle.std.proofs.Common.{◌≡◌, ◌<◌, ◌≤◌, ◌+◌, ◌-◌, ℕ, List, [], map, take, length, get_or, arith, refl}
-use Rattle.std.proofs.Common.{sym, ap, subst, ◌∙◌}
+use Rattle.std.proofs.Common.{◌≡◌, ◌<◌, ◌≤◌, ◌+◌, ◌-◌, ℕ, List, [], ◌∷◌, ◌++◌, map, take, length, get_or, arith}
+use Rattle.std.proofs.Common.{refl, sym, ap, subst, ◌∙◌, inl, inr}
 use Rattle.std.proofs.Common.{Vec, Global}
 use Rattle.std.specs.List.{sum, sum_by}
-use Rattle.std.proofs.lemmas.List.{take_all, take-map, length-map}
+use Rattle.std.proofs.lemmas.Bool.{cases_lt}
+use Rattle.std.proofs.lemmas.List.{take_all, take-map, length-map, get_or_push, get_or_append_left, get_or_read}
 use Rattle.std.proofs.lemmas.List.Sums.{sum_by_more, sum_by_more_le, sum-map}
 use Rattle.recording.specs.declared.event.Event.{Event}
 use Rattle.recording.specs.declared.event.Event.TheVariants.{F}
@@ -12,7 +13,7 @@ use Rattle.recording.specs.PlacedLaws.{placed_at, placed_total, located}
 use Rattle.recording.proofs.Finds.{core_seen}
 use Rattle.recording.specs.Tso.{IsWellFormed}
 use Rattle.relations.specs.declared.indexed.IndexedEvent.{IndexedEvent}
-use Rattle.relations.specs.Indexed.{AreFrom, AreIndexed, AreIndexedBelow, events_below}
+use Rattle.relations.specs.Indexed.{AreFrom, AreIndexed, AreIndexedBelow, AreStarts, events_below}
 
 -- one core more
 pub below_more : (x : Execution) (c : ℕ) (es : List Event) → c < length x.cores → get_or x.cores c [] ≡ es
@@ -62,6 +63,12 @@ core_here x vs c v are at is = (core_seen vs x.cores c v (sym are) (omega (
   length-map vs (λ (w : Vec Event Global). w.items),
 )) is).1
 
+-- a core that the vectors have
+pub core_there : (x : Execution) (vs : List (Vec Event Global)) (c : ℕ) → c < length vs
+    → map (λ (w : Vec Event Global). w.items) vs ≡ x.cores → c < length x.cores
+core_there x vs c low are =
+    omega (arith, low, ap (λ (cs : List (List Event)). length cs) are, length-map vs (λ w. w.items))
+
 -- the event at a place of the vector of core c
 pub event_here : (x : Execution) (vs : List (Vec Event Global)) (c : ℕ) (v : Vec Event Global)
     → map (λ (w : Vec Event Global). w.items) vs ≡ x.cores → c < length x.cores → v ≡ get_or vs c v
@@ -104,3 +111,44 @@ core_from x vs c v are at is = record {
             (from.1, here.0, there.1 ∙ sym here.1),
       );
 }
+
+-- the start of one core more
+pub starts_more : (x : Execution) (c start : ℕ) (starts : List ℕ) → length starts ≡ c + 1
+    → ((k : ℕ) → k ≤ c → get_or starts k 0 ≡ events_below x k) → start ≡ events_below x (c + 1) → (k : ℕ) → k ≤ c + 1
+    → get_or (starts ++ start ∷ []) k 0 ≡ events_below x k
+starts_more x c start starts size rest last k low = elim (cases_lt k (length starts)) [
+  | inl before ↦ get_or_append_left starts (start ∷ []) 0 k before ∙ rest k (omega (arith, before, size))
+  | inr here ↦
+      let one : length starts ≡ k = omega (arith, here, low, size) in
+      let at : c + 1 ≡ k = omega (arith, one, size) in
+      get_or_push starts start 0 k one ∙ (last ∙ ap (λ (n : ℕ). events_below x n) at)
+]
+
+-- the last of the starts is the number of events
+pub starts_last : (x : Execution) (starts : List ℕ) → AreStarts x starts
+    → get_or starts (length starts - 1) 0 ≡ event_count x
+starts_last x starts h =
+    let at : length starts - 1 ≡ length x.cores = omega (arith, h.size) in
+    ap (λ (k : ℕ). get_or starts k 0) at
+    ∙ (h.each (length x.cores) (omega arith) ∙ below_all x (length x.cores) (omega arith))
+
+-- the event with a number from the start s of core c on and below that of the next, where the starts are seen so
+pub start_here : (x : Execution) (starts seen : List ℕ) (vs : List (Vec Event Global)) (c n s : ℕ)
+    → (v : Vec Event Global) → AreStarts x starts → seen ≡ starts
+    → map (λ (w : Vec Event Global). w.items) vs ≡ x.cores → v ≡ get_or vs c v → c + 1 < length seen
+    → get_or seen c 0 ≤ n → n < get_or seen (c + 1) 0 → s ≡ get_or starts c s
+    → (n - s < length v.items) × (core_of x n ≡ c) × (event_at x n ≡ get_or v.items (n - s) F)
+start_here x starts seen vs c n s v h same are is within first next start =
+    let size : length seen ≡ length starts = ap (λ (l : List ℕ). length l) same in
+    let there : c < length x.cores = omega (arith, within, size, h.size) in
+    let this : get_or seen c 0 ≡ events_below x c =
+    ap (λ (l : List ℕ). get_or l c 0) same ∙ h.each c (omega (arith, there)) in
+    let after : get_or seen (c + 1) 0 ≡ events_below x (c + 1) =
+    ap (λ (l : List ℕ). get_or l (c + 1) 0) same ∙ h.each (c + 1) (omega (arith, there)) in
+    let from : s ≡ events_below x c =
+    get_or_read starts c s (omega (arith, within, size)) start 0 ∙ h.each c (omega (arith, there)) in
+    let more : events_below x (c + 1) ≡ events_below x c + length v.items =
+    below_more x c v.items there (core_here x vs c v are there is) in
+    let low : n - s < length v.items = omega (arith, this, after, from, more, first, next) in
+    let at = event_here x vs c v are there is (n - s) n low (omega (arith, this, from, first)) in
+    (low, at.1, at.2)
