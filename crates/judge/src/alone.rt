@@ -34,9 +34,9 @@ pub(crate) fn verdict_or_cyclic(
     match first_order(alloc, recording)? {
         FirstOrder::Order(order) => Ok(Ok(Verdict::Ordered(order))),
         FirstOrder::Overlook(load, store) => Ok(Ok(Verdict::Overlook { load, store })),
-        FirstOrder::Cyclic(places, left) => {
+        FirstOrder::Cyclic(left) => {
             drop(left);
-            Ok(Err(places.into_relation(alloc)?))
+            Ok(Err(Relation::of(alloc, recording)?))
         }
     }
 }

@@ -16,13 +16,12 @@ use Rattle.long.specs.declared.first.FirstOrder.TheVariants as first
 use Rattle.long.specs.Critical.{IsCritical}
 use Rattle.long.specs.Sorted.{IsLeft}
 
--- the first memory order of TSO; or the least overlook, or, where no read overlooks a store, the execution, events that
--- are left and a cycle of forced pairs, and no memory order of TSO explains the execution
+-- the first memory order of TSO; or the least overlook, or, where no read overlooks a store, events that are left and a
+-- cycle of forced pairs, and no memory order of TSO explains the execution
 abbrev pub IsFirstOrder : Execution → FirstOrder → Type 0
 IsFirstOrder x (first.Order m) = IsOrderedVerdict x m.items
 IsFirstOrder x (first.Overlook l s) = IsLeastOverlook x l s × HasNoOrder x
-IsFirstOrder x (first.Cyclic y l) = (y ≡ x) × IsLeft x l × ((c : List ℕ) × IsCycle (Forced x) c) × HasNoOverlook x
-    × HasNoOrder x
+IsFirstOrder x (first.Cyclic l) = IsLeft x l × ((c : List ℕ) × IsCycle (Forced x) c) × HasNoOverlook x × HasNoOrder x
 
 -- the first memory order of TSO; or the least overlook, or, where no read overlooks a store, a cycle of forced pairs
 -- without a chord, and no memory order of TSO explains the execution

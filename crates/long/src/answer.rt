@@ -50,7 +50,8 @@ pub fn judge_long<'a>(alloc: Global, recording: &'a Recording) -> Result<Judged<
             answer: LongAnswer::Overlook(load, store),
             places: None,
         }),
-        FirstOrder::Cyclic(places, left) => {
+        FirstOrder::Cyclic(left) => {
+            let places = Places::of(alloc, recording)?;
             let cycle = cycle_left(alloc, &left.pairs, left.waiting.counts())?;
             let answer = LongAnswer::Cycle(cut(alloc, &places, &cycle)?);
             Ok(Judged {

@@ -7,28 +7,25 @@ use crate::newest::overlook;
 use crate::sorting::{Sorted, Unsorted, sort};
 use common::{EventId, OutOfMemory};
 use recording::Recording;
-use relations::{Places, forced_is_exact, ordered_is_acyclic};
+use relations::{forced_is_exact, ordered_is_acyclic};
 use std::alloc::Global;
 
 /// What is found of a recording before any cycle is.
 #[derive(Drop)]
-pub enum FirstOrder<'a> {
+pub enum FirstOrder {
     /// The first memory order of TSO in dictionary order that explains it.
     Order(Vec<EventId>),
     /// The least read that overlooks a store of its own core, and the least store that it overlooks.
     Overlook(EventId, EventId),
-    /// The places of the events, and events that are left open: the forced pairs have a cycle.
-    Cyclic(Places<'a>, Unsorted),
+    /// Events that are left open: the forced pairs have a cycle.
+    Cyclic(Unsorted),
 }
 
 /// The least overlook of a recording if there is one, else its first memory order of TSO in dictionary order if there
 /// is one (Nagarajan, Sorin, Hill and Wood, A Primer on Memory Consistency and Cache Coherence, second edition, chapter
 /// 4), else events of which the forced pairs have a cycle. The time is nearly linear in the number of events, which no
 /// clause says. It does not block. Fails only if out of memory.
-pub fn first_order<'a>(
-    alloc: Global,
-    recording: &'a Recording,
-) -> Result<FirstOrder<'a>, OutOfMemory>
+pub fn first_order(alloc: Global, recording: &Recording) -> Result<FirstOrder, OutOfMemory>
     ensures { IfOk result (IsFirstOrder recording.now) }
 {
     recording.sound();
@@ -39,6 +36,6 @@ pub fn first_order<'a>(
     }
     match sort(alloc, recording)? {
         Sorted::Ordered(order) => Ok(FirstOrder::Order(order)),
-        Sorted::Blocked(left) => Ok(FirstOrder::Cyclic(Places::of(alloc, recording)?, left)),
+        Sorted::Blocked(left) => Ok(FirstOrder::Cyclic(left)),
     }
 }

@@ -26,14 +26,13 @@ returns-in-Ordered c =
       no_cycle = c.ordered_is_acyclic.ensures.forced x (event_count x) m sorted.respects;
     }
 
-pub returns-in_ok-of-in-Blocked : goal.returns-in_ok-of-in-Blocked
-returns-in_ok-of-in-Blocked c =
+pub returns-in-Blocked : goal.returns-in-Blocked
+returns-in-Blocked c =
     let x = c.args.recording.now in
     let none : HasNoOverlook x = subst (λ (o : Option (ℕ × ℕ)). MatchOption o (HasNoOverlook x)
     (λ p. IsLeastOverlook x p.0 p.1)) c.in_default.is c.in_ok-load.ensures in
     let left = subst (λ (s : Sorted). IsSorted x s) c.in-Blocked.is (c.in_ok-order.ensures none) in
     let cycle = left_cycle x c.in-Blocked.left left in (
-      c.in_ok-of-in-Blocked.ensures,
       left,
       cycle,
       none,

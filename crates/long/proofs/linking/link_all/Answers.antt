@@ -1,20 +1,14 @@
-use Rattle.std.proofs.Common.{◌≡◌, ◌<◌, ◌≤◌, ◌+◌, ◌-◌, inl, inr, ℕ, List, Vec, Global, length, map, arith, ap, sym, subst}
+use Rattle.std.proofs.Common.{◌≡◌, ◌≤◌, ◌+◌, ◌-◌, inl, inr, ℕ, List, length, arith, ap, sym, subst}
 use Rattle.std.proofs.lemmas.Bool.{cases_lt}
 use Rattle.std.proofs.lemmas.List.{length-map}
 use Rattle.recording.specs.declared.event.Event.{Event}
-use Rattle.recording.specs.Execution.{Execution, event_count}
+use Rattle.recording.specs.Execution.{event_count}
 use Rattle.relations.specs.Indexed.{AreFrom, events_below}
-use Rattle.relations.proofs.Indexing.{below_all, below_more, core_from, core_here, event_here}
+use Rattle.relations.proofs.Indexing.{below_all, below_more, core_from, core_here, core_there, event_here}
 use Rattle.long.specs.Linked.{HasPairsOf}
 use Rattle.long.proofs.PairsOf.{pairs_kept, step_listed}
 use Rattle.long.proofs.Listed.{times_none}
 use Rattle.long.proofs.linking.link_all.Goals as goal
-
--- a core that the vectors of cores have
-core_there : (x : Execution) (vs : List (Vec Event Global)) (core : ℕ) → core < length vs
-    → map (λ (w : Vec Event Global). w.items) vs ≡ x.cores → core < length x.cores
-core_there x vs core low is =
-    omega (arith, low, ap (λ (cs : List (List Event)). length cs) is, length-map vs (λ w. w.items))
 
 pub loop-core-init : goal.loop-core-init
 loop-core-init c = record {
