@@ -1,4 +1,4 @@
-//! Places in a memory order and in write lists, in constant time.
+//! Places in a memory order, in constant time, and in write lists, in time logarithmic in the number of cores.
 
 ghost use Rattle.std.specs.Prelude.{◌≡◌, ◌≢◌, ◌<◌, ℕ, length, slice_index};
 ghost use Rattle.recording.specs.Execution.{write_list};

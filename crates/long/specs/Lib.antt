@@ -4,6 +4,7 @@ pub mod Linked
 pub mod Ready
 pub mod Walks
 pub mod Sorted
+pub mod PlacedEvents
 pub mod Critical
 pub mod Newest
 pub mod Answer

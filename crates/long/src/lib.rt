@@ -9,6 +9,7 @@ mod linking;
 mod newest;
 mod open;
 mod pairs;
+mod placed_list;
 mod queue;
 mod sorting;
 mod text;
