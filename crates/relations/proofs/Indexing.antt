@@ -112,6 +112,21 @@ core_from x vs c v are at is = record {
       );
 }
 
+-- the events of a core as they are seen, numbered from its first one on, and the number after them
+pub events_from : (x : Execution) (vs : List (Vec Event Global)) (c start : ℕ) (v : Vec Event Global) (es : List Event)
+    → map (λ (w : Vec Event Global). w.items) vs ≡ x.cores → c < length x.cores → v ≡ get_or vs c v → es ≡ v.items
+    → start ≡ events_below x c → AreFrom x start es × (events_below x (c + 1) ≡ start + length es)
+events_from x vs c start v es are at is seen first = (
+  subst (λ (fs : List Event). AreFrom x start fs) (sym seen)
+      (subst (λ (n : ℕ). AreFrom x n v.items) (sym first) (core_from x vs c v are at is)),
+  omega (
+    arith,
+    below_more x c v.items at (core_here x vs c v are at is),
+    first,
+    ap (λ (fs : List Event). length fs) seen,
+  ),
+)
+
 -- the start of one core more
 pub starts_more : (x : Execution) (c start : ℕ) (starts : List ℕ) → length starts ≡ c + 1
     → ((k : ℕ) → k ≤ c → get_or starts k 0 ≡ events_below x k) → start ≡ events_below x (c + 1) → (k : ℕ) → k ≤ c + 1

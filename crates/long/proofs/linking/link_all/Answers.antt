@@ -1,10 +1,10 @@
-use Rattle.std.proofs.Common.{◌≡◌, ◌≤◌, ◌+◌, ◌-◌, inl, inr, ℕ, List, length, arith, ap, sym, subst}
+use Rattle.std.proofs.Common.{◌≡◌, ◌≤◌, ◌+◌, ◌-◌, inl, inr, ℕ, List, length, arith, ap, subst}
 use Rattle.std.proofs.lemmas.Bool.{cases_lt}
 use Rattle.std.proofs.lemmas.List.{length-map}
 use Rattle.recording.specs.declared.event.Event.{Event}
 use Rattle.recording.specs.Execution.{event_count}
-use Rattle.relations.specs.Indexed.{AreFrom, events_below}
-use Rattle.relations.proofs.Indexing.{below_all, below_more, core_from, core_here, core_there, event_here}
+use Rattle.relations.specs.Indexed.{events_below}
+use Rattle.relations.proofs.Indexing.{below_all, core_there, event_here, events_from}
 use Rattle.long.specs.Linked.{HasPairsOf}
 use Rattle.long.proofs.PairsOf.{pairs_kept, step_listed}
 use Rattle.long.proofs.Listed.{times_none}
@@ -22,57 +22,71 @@ pub put_core-requires-clause-events : goal.put_core-requires-clause-events
 put_core-requires-clause-events c =
     let x = c.args.recording.now in
     let core = c.loop-core.core in
-    let own = c.index-cores-core.result in
     let there = core_there x c.cores-core-end.result.now core c.loop-core-test.true c.cores-core-end.ensures in
-    let from = core_from x c.cores.result.now core own c.cores.ensures there c.index-cores-core.is in
-    subst (λ (es : List Event). AreFrom x c.loop-core.start es) (sym c.deref.ensures.value)
-    (subst (λ (n : ℕ). AreFrom x n own.items) (sym c.loop-core.invariant.start) from)
+    let own = events_from x c.cores.result.now core c.loop-core.start c.index-cores-core.result c.deref.result.now
+    c.cores.ensures there c.index-cores-core.is c.deref.ensures.value c.loop-core.invariant.start in
+    own.0
 
 pub put_core-requires-clause-core : goal.put_core-requires-clause-core
 put_core-requires-clause-core c = λ i low.
     let x = c.args.recording.now in
     let core = c.loop-core.core in
-    let own = c.index-cores-core.result in
     let there = core_there x c.cores-core-end.result.now core c.loop-core-test.true c.cores-core-end.ensures in
-    (event_here x c.cores.result.now core own c.cores.ensures there c.index-cores-core.is i (c.loop-core.start + i)
-    (omega (arith, low, ap (λ (es : List Event). length es) c.deref.ensures.value))
+    (event_here x c.cores.result.now core c.index-cores-core.result c.cores.ensures there c.index-cores-core.is i
+    (c.loop-core.start + i) (omega (arith, low, ap (λ (es : List Event). length es) c.deref.ensures.value))
     (ap (λ (n : ℕ). n + i) c.loop-core.invariant.start)).1
 
 pub overflow_cast-start : goal.overflow_cast-start
 overflow_cast-start c =
     let x = c.args.recording.now in
     let core = c.loop-core.core in
-    let own = c.index-cores-core.result in
     let there = core_there x c.cores-core-end.result.now core c.loop-core-test.true c.cores-core-end.ensures in
-    let from = core_from x c.cores.result.now core own c.cores.ensures there c.index-cores-core.is in
-    let few = from.within in
-    grind (arith, few, c.sound.ensures.within.few_events, c.len-in-loop-core.ensures, own.ok.0)
+    let own = events_from x c.cores.result.now core c.loop-core.start c.index-cores-core.result c.deref.result.now
+    c.cores.ensures there c.index-cores-core.is c.deref.ensures.value c.loop-core.invariant.start in
+    let few = own.0.within in
+    grind (
+      arith,
+      few,
+      c.sound.ensures.within.few_events,
+      c.len-in-loop-core.ensures,
+      c.index-cores-core.result.ok.0,
+      ap (λ (es : List Event). length es) c.deref.ensures.value,
+    )
 
 pub overflow_add-start : goal.overflow_add-start
 overflow_add-start c =
     let x = c.args.recording.now in
     let core = c.loop-core.core in
-    let own = c.index-cores-core.result in
     let there = core_there x c.cores-core-end.result.now core c.loop-core-test.true c.cores-core-end.ensures in
-    let from = core_from x c.cores.result.now core own c.cores.ensures there c.index-cores-core.is in
-    let few = from.within in
-    grind (arith, few, c.loop-core.invariant.start, c.sound.ensures.within.few_events, c.len-in-loop-core.ensures, own.ok.0)
+    let own = events_from x c.cores.result.now core c.loop-core.start c.index-cores-core.result c.deref.result.now
+    c.cores.ensures there c.index-cores-core.is c.deref.ensures.value c.loop-core.invariant.start in
+    let few = own.0.within in
+    grind (
+      arith,
+      few,
+      c.sound.ensures.within.few_events,
+      c.len-in-loop-core.ensures,
+      c.index-cores-core.result.ok.0,
+      ap (λ (es : List Event). length es) c.deref.ensures.value,
+    )
 
 pub loop-core-preserved : goal.loop-core-preserved
 loop-core-preserved c =
     let x = c.args.recording.now in
     let core = c.loop-core.core in
-    let own = c.index-cores-core.result in
+    let there = core_there x c.cores-core-end.result.now core c.loop-core-test.true c.cores-core-end.ensures in
+    let own = events_from x c.cores.result.now core c.loop-core.start c.index-cores-core.result c.deref.result.now
+    c.cores.ensures there c.index-cores-core.is c.deref.ensures.value c.loop-core.invariant.start in
     let was = c.loop-core.invariant in
     let put = c.in_ok-put_core.ensures in
-    let there = core_there x c.cores-core-end.result.now core c.loop-core-test.true c.cores-core-end.ensures in
-    let next : events_below x (core + 1) ≡ events_below x core + length own.items =
-    below_more x core own.items there (core_here x c.cores.result.now core own c.cores.ensures there c.index-cores-core.is) in
-    let size : c.len-in-loop-core.result ≡ length own.items = omega (arith, c.len-in-loop-core.ensures, own.ok.0) in
-    let after : c.loop-core.start + length c.deref.result.now ≡ c.loop-core.start + c.len-in-loop-core.result =
-    omega (arith, size, ap (λ (es : List Event). length es) c.deref.ensures.value) in
+    let after : c.loop-core.start + length c.deref.result.now ≡ c.loop-core.start + c.len-in-loop-core.result = omega (
+      arith,
+      c.len-in-loop-core.ensures,
+      c.index-cores-core.result.ok.0,
+      ap (λ (es : List Event). length es) c.deref.ensures.value,
+    ) in
     record {
-      start = omega (arith, next, size, was.start);
+      start = omega (arith, own.1, after);
       few = omega (arith, put.few, after);
       linked = put.linked;
       here = λ e low. elim (cases_lt e c.loop-core.start) [
